@@ -3,7 +3,7 @@ use Prim.Native.Nat.{ℕ, zero, suc, _+_, _<_, _≤_}
 use native.Mathlib.Omega.{arith}
 use mathlib.Core.List.{List, [], _∷_, _++_, map}
 use mathlib.Core.Path.{_≡_, refl, sym, ap, ap₂, _∙_}
-use lib.ListN.{length, getD, take, drop}
+use lib.ListN.{length, getD, take, drop, replicate, set}
 use Rattle.std.specs.Iters.{counting}
 use Rattle.std.proofs.shelf.Counted.{length-counting, getD-counting, fill-by-all}
 use Rattle.std.proofs.shelf.Lists.{take-append-drop, length-take-le, length-drop, getD-take, getD-drop, ext-getD}
@@ -74,3 +74,9 @@ pub count-after-push : (span j p : ℕ) (vs : List ℕ) (v e : ℕ) →
     count-after span j p (vs ++ v ∷ []) e ≡ count-at span (turns-after (turns-along j p vs) (last-or p vs) v) v e
 count-after-push span j p [] v e = refl
 count-after-push span j p (u ∷ vs) v e = count-after-push span (turns-after j p u) u vs v e
+
+-- one more of the first filled
+pub fill-more : {X : Type 0} (v : X) (n : ℕ) (d : List X) → n < length d → set (replicate n v ++ drop n d) n v ≡ replicate (suc n) v ++ drop (suc n) d
+fill-more v n [] h = absurd (omega arith)
+fill-more v zero (x ∷ d) h = refl
+fill-more v (suc n) (x ∷ d) h = ap (λ l. v ∷ l) (fill-more v n d (omega arith))

@@ -1,6 +1,6 @@
 -- The configuration: its limits, and what follows from it. Assumes nothing.
 use Prim.Native.Nat.{ℕ}
-use mathlib.Core.Bool.{Bool, cond, _&&_, _||_}
+use mathlib.Core.Bool.{Bool, false, cond, _&&_, _||_}
 use mathlib.Core.List.{List}
 use lib.Dec.{leb, ltb, eqb}
 use lib.ListN.{getD, take}
@@ -8,7 +8,7 @@ use Rattle.std.specs.declared.option.Option.{Option}
 use Rattle.std.specs.declared.option.Option.the-variants.{Some, None}
 use Rattle.dai.specs.declared.Layout.{Layout}
 use Rattle.dai.specs.declared.Layout.the-variants.{One, Two, Four}
-use Rattle.dai.specs.Fields.{reading}
+use Rattle.dai.specs.Fields.{has-total, reading}
 use Rattle.harq.specs.Words.{every, with-some}
 use Rattle.harq.specs.declared.configs.Config.{Config}
 
@@ -57,6 +57,15 @@ layout-of g format =
     cond (eqb format 2) (layout-wide (g .width))
     (cond (ltb 2 format || eqb (g .width) 1) None
     (cond (eqb format 1 && ltb 1 (g .cells)) (Some Four) (Some Two)))
+
+-- a total in a layout that is there
+abbrev pub total-there : Option Layout → Bool
+total-there None = false
+total-there (Some l) = has-total l
+
+-- assignments of a format carry a total
+abbrev pub carries-total : Config → ℕ → Bool
+carries-total g format = total-there (layout-of g format)
 
 -- the counter and the total of a field, or none where the format is barred or the field too wide
 abbrev pub read-dai : Config → ℕ → ℕ → Option (ℕ × Option ℕ)

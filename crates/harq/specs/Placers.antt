@@ -1,7 +1,8 @@
 -- The placer: its state is the span, the turns and the counter before. Its turns stop at the largest number of 32 bits. Assumes nothing.
-use Prim.Native.Nat.{ℕ, _+_, _-_, _*_, min}
-use mathlib.Core.Bool.{cond}
-use lib.Dec.{leb, ltb}
+use Prim.Native.Nat.{ℕ, _+_, _-_, _*_, _/_, min}
+use mathlib.Core.Bool.{cond, _||_}
+use lib.Dec.{leb, ltb, eqb}
+use Rattle.dai.specs.Values.{value}
 use Rattle.std.specs.declared.result.Result.{Result}
 use Rattle.std.specs.declared.result.Result.the-variants.{Ok, Err}
 use Rattle.harq.specs.declared.refusals.Refusal.{Refusal}
@@ -11,6 +12,10 @@ use Rattle.harq.specs.declared.placing.Placer.{Placer}
 -- before the first counter
 abbrev pub fresh : ℕ → Placer
 fresh span = record { span = span; turns = 0; previous = 0 }
+
+-- behind the numbers 1 to n, none of them missing
+abbrev pub placer-after : ℕ → ℕ → Placer
+placer-after span n = cond (eqb n 0 || eqb span 0) (fresh span) (record { span = span; turns = (n - 1) / span; previous = value span n })
 
 -- the turns with one more counter
 abbrev pub turns-of : Placer → ℕ → ℕ

@@ -46,3 +46,8 @@ with-some (Some x) f = f x
 abbrev pub onward : {X Y E : Type 0} → Result X E → (X → Result Y E) → Result Y E
 onward (Ok x) f = f x
 onward (Err e) f = Err e
+
+-- checks that refuse where they hold: the first of them counts
+abbrev pub first-refusing : {E : Type 0} → List (Bool × E) → Option E
+first-refusing [] = None
+first-refusing (c ∷ cs) = cond (c .0) (Some (c .1)) (first-refusing cs)

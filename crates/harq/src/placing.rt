@@ -6,7 +6,7 @@ ghost use lib.Dec.{ltb};
 ghost use lib.ListN.{length, set};
 ghost use Rattle.harq.specs.Agreement.{Counts-agree};
 ghost use Rattle.harq.specs.PlacingLaws.{Placing-stands, Nothing-lost, Slots-hold};
-ghost use Rattle.harq.specs.Placers.{fresh, turns-of, advanced, place-at, place-answer, slots-at};
+ghost use Rattle.harq.specs.Placers.{fresh, placer-after, turns-of, advanced, place-at, place-answer, slots-at};
 use crate::refusals::Refusal;
 
 // How far placing has come: the span of the counter, its turns so far, and the counter before (0: none).
@@ -27,6 +27,16 @@ impl Placer {
             turns: 0,
             previous: 0,
         }
+    }
+
+    // Behind the numbers 1 to `numbered`, none of them missing.
+    pub fn after(span: u32, numbered: u32) -> Placer
+        ensures { λ r. ⌜ r ≡ placer-after span numbered ⌝ }
+    {
+        if numbered == 0 || span == 0 {
+            return Placer::new(span);
+        }
+        Placer { span, turns: (numbered - 1) / span, previous: (numbered - 1) % span + 1 }
     }
 
     // The counter before, 0 before the first.

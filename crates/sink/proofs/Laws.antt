@@ -6,23 +6,49 @@ use Prim.Native.Nat.{ℕ, zero, suc, _+_, _-_, _<_, _≤_}
 use native.Mathlib.Omega.{arith}
 use lib.ListN.{length, take, getD}
 use lib.Dec.{ltb, leb}
+use Rattle.std.proofs.shelf.Tests.{cond-both, leb-true}
 use Rattle.std.proofs.shelf.Ways.{tells}
-use Rattle.std.proofs.shelf.Lists.{map-append, map-push, length-map, append-assoc, take-more, length-push}
+use Rattle.std.proofs.shelf.Lists.{map-append, map-push, length-map, length-push, append-assoc, take-more}
 use Rattle.std.specs.declared.result.Result.the-variants.{Ok, Err}
-use Rattle.sink.specs.Sink.{answer-at, gained, all-gained, room-after}
+use Rattle.harq.specs.declared.refusals.Refusal.{Refusal}
+use Rattle.sink.specs.Sink.{answer-at, gained, all-gained, accepted, room-after}
 
 -- with room the list gains the bit
 pub gained-room : (n : ℕ) (t : List Bool) (b : Bool) → 0 < n → gained n t b ≡ t ++ (b ∷ [])
 gained-room n t b h = grind (arith, tells)
 
+-- with room at both, two sinks gain the same
+pub gained-same : (m n : ℕ) (t : List Bool) (b : Bool) → 0 < m → 0 < n → gained m t b ≡ gained n t b
+gained-same m n t b h k = gained-room m t b h ∙ sym (gained-room n t b k)
+
+pub length-gained : (n : ℕ) (t : List Bool) (b : Bool) → 0 < n → length (gained n t b) ≡ length t + 1
+length-gained n t b h = ap length (gained-room n t b h) ∙ length-push t b
+
 -- with room the list gains the whole run
 pub all-gained-room : (n : ℕ) (t bits : List Bool) → length bits ≤ n → all-gained n t bits ≡ t ++ bits
 all-gained-room n t bits h = grind (arith, tells)
+
+-- with room the whole run is taken
+pub accepted-room : (n : ℕ) (bits : List Bool) → length bits ≤ n → accepted n bits ≡ bits
+accepted-room n bits h = all-gained-room n [] bits h
+
+-- no more is taken than there is room for
+pub accepted-few : (n : ℕ) (bits : List Bool) → length (accepted n bits) ≤ n
+accepted-few n bits = cond-both (leb (length bits) n) bits [] (λ t. length t ≤ n) (leb-true (length bits) n) (λ _. omega arith)
+
+-- the room falls by what is taken
+pub room-fallen : (n : ℕ) (bits : List Bool) → room-after n bits ≡ n - length (accepted n bits)
+room-fallen n bits =
+    elim (leb (length bits) n) as (λ v. cond v (n - length bits) n ≡ n - length (cond v bits [])) [ true ↦ refl | false ↦ omega arith ]
 
 -- a bit that was accepted had room
 pub ok-room : (n : ℕ) (u : Unit {0}) → Ok u ≡ answer-at n → 0 < n
 ok-room zero u e = let z : _≡_ {A = ℕ} 0 1 = cc in omega arith
 ok-room (suc n) u e = omega arith
+
+-- a bit that was refused had none
+pub err-room : (n : ℕ) (e : Refusal) → Err e ≡ answer-at n → n ≡ 0
+err-room n e p = grind (arith, tells)
 
 -- a run, one bit on
 pub run-more : (t bits : List Bool) (i : ℕ) (d : Bool) → i < length bits → (t ++ take i bits) ++ (getD bits i d ∷ []) ≡ t ++ take (i + 1) bits

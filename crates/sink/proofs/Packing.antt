@@ -1,8 +1,8 @@
 -- The bits of a run of bytes.
 use mathlib.Core.Path.{_≡_, refl, sym, ap, _∙_}
-use mathlib.Core.Bool.{Bool, true, false, cond, not}
+use mathlib.Core.Bool.{Bool, false, not}
 use mathlib.Core.List.{List, [], _∷_, _++_, map}
-use Prim.Native.Nat.{ℕ, zero, suc, _+_, _-_, _*_, _/_, _%_, _<_, _≤_}
+use Prim.Native.Nat.{ℕ, zero, suc, _+_, _-_, _*_, _/_, _%_, _<_}
 use native.Mathlib.Omega.{arith}
 use lib.ListN.{length, getD, set, take, drop}
 use Rattle.std.proofs.shelf.Lists.{set-append-left, set-append-right, getD-append-left, getD-append-right, length-append, length-take-le, length-drop, take-append-drop, nil-from-length, map-append}
@@ -79,3 +79,7 @@ pub bits-determine : Bits-determine
 bits-determine xs ys hx hy e =
     let l : length xs ≡ length ys = omega (arith, length-bits xs, length-bits ys, ap length e) in
     sym (unpacked-packs xs hx) ∙ ap (bytes-of (length xs)) e ∙ ap (λ n. bytes-of n (bits-of ys)) l ∙ unpacked-packs ys hy
+
+-- bytes whose bits are known are packed from them
+pub bytes-by-bits : (bytes : List ℕ) (bits : List Bool) → Bytes bytes → bits-of bytes ≡ bits → bytes ≡ bytes-of (length bytes) bits
+bytes-by-bits bytes bits h e = sym (unpacked-packs bytes h) ∙ ap (bytes-of (length bytes)) e

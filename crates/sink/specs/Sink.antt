@@ -25,6 +25,10 @@ all-answer n bits = cond (leb (length bits) n) (Ok (length bits)) (Err Room)
 abbrev pub all-gained : ℕ → List Bool → List Bool → List Bool
 all-gained n taken bits = cond (leb (length bits) n) (taken ++ bits) taken
 
+-- the bits that are taken of a run
+abbrev pub accepted : ℕ → List Bool → List Bool
+accepted n bits = all-gained n [] bits
+
 -- the room after a run of bits
 abbrev pub room-after : ℕ → List Bool → ℕ
 room-after n bits = cond (leb (length bits) n) (n - length bits) n

@@ -22,6 +22,7 @@ pub use layers::QuotaSink;
 pub use packed::PackedBits;
 pub use packed::PackedBitsSink;
 pub use packed::bit_at;
+pub use packed::set_bit;
 pub use runs::pack;
 pub use runs::pack_inverted;
 pub use runs::put_all;
@@ -31,7 +32,8 @@ pub use theorems::packing_inverts;
 pub use theorems::text_reads;
 pub use theorems::written_reads;
 
-// A sink of bits, by the list of the bits that it took and the room that it has left. A bit that is 1 is an ACK.
+// A sink of bits, by the list of the bits that it took and the room that it has left. A bit that is true is an ACK.
+// Any type becomes one by giving the two and proving `put` and `room_left`.
 pub trait BitSink {
     ghost taken: { Self → List Bool };
 

@@ -1,10 +1,10 @@
 // Bits packed into lent bytes, the top bit first, and read back.
-ghost use mathlib.Core.Bool.{Bool};
 ghost use mathlib.Core.List.{[]};
 ghost use mathlib.Core.Path.{_≡_};
 ghost use Prim.Native.Nat.{_*_, _/_, _^_, _<_};
+ghost use lib.Dec.{ltb};
 ghost use lib.ListN.{length, set};
-ghost use Rattle.sink.specs.Bits.{bit-of, byte-bits, bit-read};
+ghost use Rattle.sink.specs.Bits.{bit-of, byte-bits, bits-of, bit-read};
 ghost use Rattle.sink.specs.Ends.{capacity, packed-taken, packed-room, packed-took};
 use crate::BitSink;
 use harq::Refusal;
@@ -41,12 +41,12 @@ pub impl BitSink for PackedBits<'_> as PackedBitsSink {
     ghost took = { packed-took };
 
     fn put(&mut self, bit: bool) -> Result<(), Refusal> {
-        let i = self.used;
         if self.free() == 0 {
             return Err(Refusal::Room);
         }
-        self.bytes[i / 8] = with_bit(self.bytes[i / 8], i % 8, bit);
-        self.used = i + 1;
+        let index = self.used;
+        set_bit(self.bytes, index, bit);
+        self.used = index + 1;
         Ok(())
     }
 
@@ -70,6 +70,18 @@ fn with_bit(byte: u8, k: usize, bit: bool) -> u8
 {
     let only = mask(k);
     if bit { byte | only } else { byte & !only }
+}
+
+// Sets the bit at that index of packed bytes alone; false where there is none.
+pub fn set_bit(bytes: &mut [u8], index: usize, bit: bool) -> bool
+    ensures found { λ r. ⌜ r ≡ ltb index (8 * length (now (bytes .entry))) ⌝ }
+    ensures bits { λ _. ⌜ bits-of (now (bytes .exit)) ≡ set (bits-of (now (bytes .entry))) index bit ⌝ }
+{
+    if index / 8 >= bytes.len() {
+        return false;
+    }
+    bytes[index / 8] = with_bit(bytes[index / 8], index % 8, bit);
+    true
 }
 
 // Bit k of the byte.

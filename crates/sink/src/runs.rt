@@ -1,13 +1,13 @@
 // Whole runs of bits, put into any sink or into lent bytes.
 ghost use mathlib.Core.Bool.{Bool, not};
-ghost use mathlib.Core.List.{List, [], map};
+ghost use mathlib.Core.List.{List, map};
 ghost use mathlib.Core.Path.{_≡_};
 ghost use Prim.Native.Nat.{_<_};
 ghost use lib.ListN.{length};
 ghost use Rattle.sink.specs.Bits.{bits-of};
 ghost use Rattle.sink.specs.Digits.{digit};
 ghost use Rattle.sink.specs.Ends.{capacity};
-ghost use Rattle.sink.specs.Sink.{all-answer, all-gained, room-after};
+ghost use Rattle.sink.specs.Sink.{all-answer, all-gained, accepted, room-after};
 ghost use Rattle.sink.specs.Written.{written};
 use crate::BitSink;
 use crate::digits::TextBits;
@@ -24,7 +24,7 @@ pub fn put_all<S: BitSink>(bits: &[bool], sink: &mut S) -> Result<usize, Refusal
     ensures answer { λ r. ⌜ r ≡ all-answer (room (now (sink .entry))) (now (bits .entry)) ⌝ }
     ensures list { λ _. ⌜ taken (now (sink .exit)) ≡ all-gained (room (now (sink .entry))) (taken (now (sink .entry))) (now (bits .entry)) ⌝ }
     ensures left { λ _. ⌜ room (now (sink .exit)) ≡ room-after (room (now (sink .entry))) (now (bits .entry)) ⌝ }
-    ensures took { λ _. ⌜ took (now (sink .entry)) (all-gained (room (now (sink .entry))) [] (now (bits .entry))) (now (sink .exit)) ⌝ }
+    ensures took { λ _. ⌜ took (now (sink .entry)) (accepted (room (now (sink .entry))) (now (bits .entry))) (now (sink .exit)) ⌝ }
     ensures on { λ _. ⌜ ((first : S) (more : List Bool) → took first more (now (sink .entry)) → took first (all-gained (room (now (sink .entry))) more (now (bits .entry))) (now (sink .exit))) ⌝ }
     ensures kept { λ _. ⌜ (room (now (sink .entry)) < length (now (bits .entry)) → now (sink .exit) ≡ now (sink .entry)) ⌝ }
 {
@@ -42,7 +42,7 @@ fn put_inverted<S: BitSink>(bits: &[bool], sink: &mut S) -> Result<usize, Refusa
     ensures answer { λ r. ⌜ r ≡ all-answer (room (now (sink .entry))) (now (bits .entry)) ⌝ }
     ensures list { λ _. ⌜ taken (now (sink .exit)) ≡ all-gained (room (now (sink .entry))) (taken (now (sink .entry))) (map not (now (bits .entry))) ⌝ }
     ensures left { λ _. ⌜ room (now (sink .exit)) ≡ room-after (room (now (sink .entry))) (now (bits .entry)) ⌝ }
-    ensures took { λ _. ⌜ took (now (sink .entry)) (all-gained (room (now (sink .entry))) [] (map not (now (bits .entry)))) (now (sink .exit)) ⌝ }
+    ensures took { λ _. ⌜ took (now (sink .entry)) (accepted (room (now (sink .entry))) (map not (now (bits .entry)))) (now (sink .exit)) ⌝ }
     ensures kept { λ _. ⌜ (room (now (sink .entry)) < length (now (bits .entry)) → now (sink .exit) ≡ now (sink .entry)) ⌝ }
 {
     let mut inverter = Inverter::new(sink);
@@ -52,7 +52,7 @@ fn put_inverted<S: BitSink>(bits: &[bool], sink: &mut S) -> Result<usize, Refusa
 // Packs the bits into the front of the bytes, or nothing.
 pub fn pack(bits: &[bool], bytes: &mut [u8]) -> Result<usize, Refusal>
     ensures answer { λ r. ⌜ r ≡ all-answer (capacity (length (now (bytes .entry)))) (now (bits .entry)) ⌝ }
-    ensures bytes { λ _. ⌜ bits-of (now (bytes .exit)) ≡ written (bits-of (now (bytes .entry))) 0 (all-gained (capacity (length (now (bytes .entry)))) [] (now (bits .entry))) ⌝ }
+    ensures bytes { λ _. ⌜ bits-of (now (bytes .exit)) ≡ written (bits-of (now (bytes .entry))) 0 (accepted (capacity (length (now (bytes .entry)))) (now (bits .entry))) ⌝ }
 {
     let mut packed = PackedBits::new(bytes);
     put_all(bits, &mut packed)
@@ -61,7 +61,7 @@ pub fn pack(bits: &[bool], bytes: &mut [u8]) -> Result<usize, Refusal>
 // Packs the bits, each flipped, into the front of the bytes, or nothing.
 pub fn pack_inverted(bits: &[bool], bytes: &mut [u8]) -> Result<usize, Refusal>
     ensures answer { λ r. ⌜ r ≡ all-answer (capacity (length (now (bytes .entry)))) (now (bits .entry)) ⌝ }
-    ensures bytes { λ _. ⌜ bits-of (now (bytes .exit)) ≡ written (bits-of (now (bytes .entry))) 0 (all-gained (capacity (length (now (bytes .entry)))) [] (map not (now (bits .entry)))) ⌝ }
+    ensures bytes { λ _. ⌜ bits-of (now (bytes .exit)) ≡ written (bits-of (now (bytes .entry))) 0 (accepted (capacity (length (now (bytes .entry)))) (map not (now (bits .entry)))) ⌝ }
 {
     let mut packed = PackedBits::new(bytes);
     put_inverted(bits, &mut packed)
@@ -70,7 +70,7 @@ pub fn pack_inverted(bits: &[bool], bytes: &mut [u8]) -> Result<usize, Refusal>
 // Writes the bits as digits into the front of the bytes, or nothing.
 pub fn text(bits: &[bool], bytes: &mut [u8]) -> Result<usize, Refusal>
     ensures answer { λ r. ⌜ r ≡ all-answer (length (now (bytes .entry))) (now (bits .entry)) ⌝ }
-    ensures bytes { λ _. ⌜ now (bytes .exit) ≡ written (now (bytes .entry)) 0 (map digit (all-gained (length (now (bytes .entry))) [] (now (bits .entry)))) ⌝ }
+    ensures bytes { λ _. ⌜ now (bytes .exit) ≡ written (now (bytes .entry)) 0 (map digit (accepted (length (now (bytes .entry))) (now (bits .entry)))) ⌝ }
 {
     let mut digits = TextBits::new(bytes);
     put_all(bits, &mut digits)

@@ -35,7 +35,7 @@ use Rattle.ue.specs.declared.declines.Decline.{Decline}
 use Rattle.ue.specs.declared.walks.Known.{Known}
 use Rattle.ue.specs.declared.walks.Walk.{Walk}
 use Rattle.ue.specs.Batches.{dai-of, counter-read, total-read, counter, total, counting, brought, counted, counters, total-at, end-value, slots-in}
-use Rattle.ue.specs.Checks.{first-refusing, last-of, rises-above, differ, total-differs, arrival-refused, first-refused, slots-or}
+use Rattle.ue.specs.Checks.{last-of, rises-above, differ, total-differs, arrival-refused, first-refused, slots-or}
 use Rattle.ue.specs.Walks.{start, above, known-total, joined, passed, tallied, totalled, step-read, step, blamed, walk-from, slots-after}
 
 -- those of a row with one more

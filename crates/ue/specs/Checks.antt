@@ -12,7 +12,7 @@ use Rattle.std.specs.declared.result.Result.the-variants.{Ok, Err}
 use Rattle.harq.specs.declared.configs.Config.{Config}
 use Rattle.harq.specs.declared.refusals.Refusal.{Refusal}
 use Rattle.harq.specs.declared.refusals.Refusal.the-variants as why
-use Rattle.harq.specs.Words.{last-or, onward}
+use Rattle.harq.specs.Words.{last-or, onward, first-refusing}
 use Rattle.harq.specs.Configs.{config-within, bits-per-place, in-range}
 use Rattle.harq.specs.SpsLists.{unfit-from}
 use Rattle.ue.specs.declared.arrivals.Arrival.{Arrival}
@@ -21,11 +21,6 @@ use Rattle.ue.specs.declared.declines.Decline.{Decline}
 use Rattle.ue.specs.declared.declines.Part.{Part}
 use Rattle.ue.specs.declared.declines.Part.the-variants as part
 use Rattle.ue.specs.Batches.{dai-of, total, counting, brought, counted, total-at, slots-in}
-
--- checks that refuse where they hold: the first of them counts
-abbrev pub first-refusing : List (Bool × Refusal) → Option Refusal
-first-refusing [] = None
-first-refusing (c ∷ cs) = cond (c .0) (Some (c .1)) (first-refusing cs)
 
 -- the last of the arrivals before
 abbrev pub last-of : List Arrival → Option Arrival

@@ -1,4 +1,3 @@
-use mathlib.Core.Path.{refl, ap, sym, _∙_}
 use Rattle.sink.proofs.Reading.{digit-says, said-digit, text-reads}
 use Rattle.sink.proofs.theorems.text_reads.Needs as need
 

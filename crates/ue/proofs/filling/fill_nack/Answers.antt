@@ -1,6 +1,6 @@
 use native.Mathlib.Numerals.{add-one}
 use native.Mathlib.Omega.{arith}
-use Rattle.ue.proofs.Fills.{fill-more}
+use Rattle.harq.proofs.Rows.{fill-more}
 use Rattle.ue.proofs.filling.fill_nack.Needs as need
 
 pub loop-i-again : need.loop-i-again

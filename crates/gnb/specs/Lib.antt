@@ -1,0 +1,6 @@
+pub mod Limits
+pub mod Marks
+pub mod Opening
+pub mod Calls
+pub mod Entries
+pub mod Sending

@@ -1,0 +1,14 @@
+// What the gNB's card holds of a batch: plain numbers.
+use harq::Config;
+
+pub struct BatchState {
+    pub config: Config,
+    // SPS entries.
+    pub sps: u32,
+    // The occasion of the last accepted call.
+    pub last: Option<u32>,
+    // Grants numbered so far.
+    pub numbered: u32,
+    // Blocks granted so far, each SPS entry counting as one.
+    pub granted: u32,
+}

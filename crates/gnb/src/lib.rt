@@ -1,0 +1,13 @@
+// The gNB's side: numbering of assignments, and the length of the report that answers them.
+pub mod batches;
+pub mod grants;
+pub mod marks;
+pub mod states;
+
+pub use batches::BatchState;
+pub use grants::Grant;
+pub use grants::GrantEntry;
+pub use marks::Mark;
+pub use marks::Marks;
+pub use states::Awaiting;
+pub use states::Numbering;
