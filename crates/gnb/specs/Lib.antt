@@ -4,3 +4,4 @@ pub mod Opening
 pub mod Calls
 pub mod Entries
 pub mod Sending
+pub mod Plans

@@ -1,6 +1,7 @@
 // What the gNB's card holds of a batch: plain numbers.
 use harq::Config;
 
+#[derive(Drop)]
 pub struct BatchState {
     pub config: Config,
     // SPS entries.

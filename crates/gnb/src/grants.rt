@@ -25,3 +25,10 @@ pub struct GrantEntry {
     pub field: u32,
     pub marks: Marks,
 }
+
+// A numbering call: an occasion and its grants.
+#[derive(Clone, Copy)]
+pub struct Call<'a> {
+    pub occasion: u32,
+    pub grants: &'a [Grant],
+}

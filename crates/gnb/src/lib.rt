@@ -5,9 +5,11 @@ pub mod marks;
 pub mod states;
 
 pub use batches::BatchState;
+pub use grants::Call;
 pub use grants::Grant;
 pub use grants::GrantEntry;
 pub use marks::Mark;
 pub use marks::Marks;
 pub use states::Awaiting;
 pub use states::Numbering;
+pub use states::plan;

@@ -4,6 +4,9 @@ use crate::batches::BatchState;
 
 mod calls;
 mod opening;
+mod plans;
+
+pub use plans::plan;
 
 // Grants may be numbered.
 pub struct Numbering {
