@@ -1,3 +1,3 @@
 mod Spans
 mod Rule
-mod Returns
+pub mod Returns

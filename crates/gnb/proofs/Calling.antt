@@ -40,7 +40,7 @@ pub grant-within : (g : Config) (m lowest : ℕ) (a : Grant) → grant-refused g
 grant-within g m lowest a e = (grind (arith, tells), grind (arith, tells))
 
 module _ (g : Config) (m lowest : ℕ) (gs : List Grant) (i : ℕ) (all : Option Refusal) (inv : grants-refused g m lowest (drop i gs) ≡ all)
-  (d : Grant) (within : i < length gs) where
+    (d : Grant) (within : i < length gs) where
   turn : or-else (grant-refused g m lowest (getD gs i d)) (grants-refused g m (getD gs i d .cell + 1) (drop (i + 1) gs)) ≡ all
   turn = sym (at-drop-more (grants-refused g m lowest) gs i d within) ∙ inv
 
@@ -54,7 +54,7 @@ module _ (g : Config) (m lowest : ℕ) (gs : List Grant) (i : ℕ) (all : Option
 
 -- one grant's blocks more
 pub blocks-more : (n x all : ℕ) (gs : List Grant) (i : ℕ) (d : Grant) → i < length gs → x ≡ answered-blocks (getD gs i d .blocks) →
-  n + blocks-in (drop i gs) ≡ all → (n + x) + blocks-in (drop (i + 1) gs) ≡ all
+    n + blocks-in (drop i gs) ≡ all → (n + x) + blocks-in (drop (i + 1) gs) ≡ all
 blocks-more n x all gs i d within is inv =
     let more : blocks-in (drop i gs) ≡ answered-blocks (getD gs i d .blocks) + blocks-in (drop (i + 1) gs) = at-drop-more blocks-in gs i d within in
     omega arith
@@ -74,8 +74,8 @@ module _ (span : ℕ) (some : 0 < span) (k : ℕ) (small : k < 4294967295) (p : 
       ∙ ap (λ (r : Placer). advanced r v) at-k ∙ ap (advanced (placer-after span k)) counter ∙ placer-next span some k small
 
   pub written-on : (g : Config) (m total : ℕ) (gs : List Grant) (i : ℕ) (d : Grant) (t t′ all : List GrantEntry) (e : GrantEntry) → i < length gs →
-    e ≡ entry-of g m total (k + 1) (getD gs i d) → t′ ≡ set t (place-at p v) e →
-    written t k (entries-of g m total k (drop i gs)) ≡ all → written t′ (k + 1) (entries-of g m total (k + 1) (drop (i + 1) gs)) ≡ all
+      e ≡ entry-of g m total (k + 1) (getD gs i d) → t′ ≡ set t (place-at p v) e →
+      written t k (entries-of g m total k (drop i gs)) ≡ all → written t′ (k + 1) (entries-of g m total (k + 1) (drop (i + 1) gs)) ≡ all
   written-on g m total gs i d t t′ all e within entry wrote inv =
       let rest : List GrantEntry = entries-of g m total (k + 1) (drop (i + 1) gs) in
       ap (λ (l : List GrantEntry). written l (k + 1) rest) (wrote ∙ ap (λ n. set t n e) here ∙ ap (set t k) entry)
@@ -88,7 +88,7 @@ length-entries g m total n (a ∷ gs) = ap suc (length-entries g m total (n + 1)
 
 -- the entries stand behind the first n, and every other entry as it was
 pub entries-stand : (g : Config) (m total n : ℕ) (gs : List Grant) (t : List GrantEntry) → n + length gs ≤ length t →
-  written t n (entries-of g m total n gs) ≡ take n t ++ (entries-of g m total n gs ++ drop (n + length gs) t)
+    written t n (entries-of g m total n gs) ≡ take n t ++ (entries-of g m total n gs ++ drop (n + length gs) t)
 entries-stand g m total n gs t space =
     let l = length-entries g m total n gs in
     written-at t n (entries-of g m total n gs) (omega arith)

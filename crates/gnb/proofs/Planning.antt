@@ -18,13 +18,13 @@ no-call = record { occasion = 0; grants = record { ptr = (0, 0); name = 0; now =
 
 -- what follows of the state and the table from each call to the next
 module _ {R : Type 0} (run : BatchState → List GrantEntry → List Call → R)
-  (step : (b : BatchState) (t : List GrantEntry) (c : Call) (cs : List Call) →
+    (step : (b : BatchState) (t : List GrantEntry) (c : Call) (cs : List Call) →
     run b t (c ∷ cs) ≡ run (batch-after b (length t) (c .occasion) (c .grants)) (table-after b (c .occasion) (c .grants) t) cs)
-  (b : BatchState) (t : List GrantEntry) (calls : List code.Call) (i : ℕ) (all : R) (inv : run b t (map call-of (drop i calls)) ≡ all) where
+    (b : BatchState) (t : List GrantEntry) (calls : List code.Call) (i : ℕ) (all : R) (inv : run b t (map call-of (drop i calls)) ≡ all) where
   pub run-more : (b′ : BatchState) (t′ : List GrantEntry) → i < length calls →
-    b′ ≡ batch-after b (length t) (getD calls i no-call .occasion) (now (getD calls i no-call .grants)) →
-    t′ ≡ table-after b (getD calls i no-call .occasion) (now (getD calls i no-call .grants)) t →
-    run b′ t′ (map call-of (drop (i + 1) calls)) ≡ all
+      b′ ≡ batch-after b (length t) (getD calls i no-call .occasion) (now (getD calls i no-call .grants)) →
+      t′ ≡ table-after b (getD calls i no-call .occasion) (now (getD calls i no-call .grants)) t →
+      run b′ t′ (map call-of (drop (i + 1) calls)) ≡ all
   run-more b′ t′ within state table =
       let rest : List Call = map call-of (drop (i + 1) calls) in
       ap (λ (x : BatchState). run x t′ rest) state

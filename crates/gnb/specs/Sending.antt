@@ -31,8 +31,8 @@ pub record Call : Type 0 where
 abbrev pub accepted-calls : BatchState → ℕ → List Call → List Call
 accepted-calls b table [] = []
 accepted-calls b table (c ∷ cs) = elim (call-refused b table (c .occasion) (c .grants)) [
-  None ↦ c ∷ accepted-calls (batch-by None b (c .occasion) (c .grants)) table cs |
-  Some e ↦ accepted-calls b table cs
+  | None ↦ c ∷ accepted-calls (batch-by None b (c .occasion) (c .grants)) table cs
+  | Some e ↦ accepted-calls b table cs
 ]
 
 -- a DCI assignment as sent
@@ -104,8 +104,9 @@ pub record Sent (g : Config) (sps : List SpsEntry) (table : List GrantEntry) (ca
   -- the table's first entries hold exactly these, number k at place k - 1, none of them answered
   pub holds : map assignment-in (take (b .numbered) after) ≡ sent g sps (length table) calls
   pub open-marks : map (λ (e : GrantEntry). e .marks) (take (b .numbered) after) ≡ map (λ (a : Assignment). unanswered (a .blocks)) (sent g sps (length table) calls)
-  -- every other entry is as it was
+  -- every other entry is as it was, and the table is as long
   pub others : drop (b .numbered) after ≡ drop (b .numbered) table
+  pub long : length after ≡ length table
   -- the blocks granted: those of the assignments, and one for each SPS entry
   pub blocks : b .granted ≡ blocks-sent (sent g sps (length table) calls) + length sps
   -- at most one for each cell and occasion used, so that the report never passes 1,088 bits
@@ -135,5 +136,5 @@ All-read-back g n (c ∷ cs) =
 
 abbrev pub Fields-read-back : Type 0
 Fields-read-back =
-    (g : Config) (sps : List SpsEntry) (marks : ℕ) (b : BatchState) (table : ℕ) (calls : List Call) →
-    opened g sps marks ≡ Ok b → All-read-back g 0 (accepted-calls (fresh-batch g sps) table calls)
+    (g : Config) (sps : List SpsEntry) (table : ℕ) (calls : List Call) →
+    All-read-back g 0 (accepted-calls (fresh-batch g sps) table calls)

@@ -3,6 +3,7 @@ pub mod batches;
 pub mod grants;
 pub mod marks;
 pub mod states;
+pub mod theorems;
 
 pub use batches::BatchState;
 pub use grants::Call;

@@ -34,6 +34,10 @@ impl Marks {
     pub fn unanswered(blocks: u32) -> Marks
         ensures { λ r. ⌜ r ≡ unanswered blocks ⌝ }
     {
-        if blocks < 2 { Marks::One(Mark::Unanswered) } else { Marks::Two(Mark::Unanswered, Mark::Unanswered) }
+        if blocks < 2 {
+            Marks::One(Mark::Unanswered)
+        } else {
+            Marks::Two(Mark::Unanswered, Mark::Unanswered)
+        }
     }
 }

@@ -58,7 +58,7 @@ module _ (span : ℕ) (some : 0 < span) where
     few : p .turns ≤ k
 
   after-is : (k : ℕ) → (b : Bool) → (eqb k 0 || eqb span 0) ≡ b →
-    After k (cond b (fresh span) (record { span = span; turns = (k - 1) / span; previous = value span k }))
+      After k (cond b (fresh span) (record { span = span; turns = (k - 1) / span; previous = value span k }))
   after-is k true e =
       let z : k ≡ 0 = grind (arith, tells) in
       record { wide = refl; stand = subst (λ (n : ℕ). Stands span n 0 0) (sym z) (stands-none span); few = omega arith }

@@ -36,7 +36,11 @@ impl Placer {
         if numbered == 0 || span == 0 {
             return Placer::new(span);
         }
-        Placer { span, turns: (numbered - 1) / span, previous: (numbered - 1) % span + 1 }
+        Placer {
+            span,
+            turns: (numbered - 1) / span,
+            previous: (numbered - 1) % span + 1,
+        }
     }
 
     // The counter before, 0 before the first.

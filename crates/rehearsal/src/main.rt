@@ -20,7 +20,11 @@ const NO_ENTRY: GrantEntry = GrantEntry {
 
 // One transport block by format 1_1.
 fn grant(cell: u32) -> Grant {
-    Grant { cell, format: 1, blocks: 1 }
+    Grant {
+        cell,
+        format: 1,
+        blocks: 1,
+    }
 }
 
 fn show_entry(rt: &LibcRuntime, e: &GrantEntry) -> Result<(), AnyError> {
@@ -30,20 +34,41 @@ fn show_entry(rt: &LibcRuntime, e: &GrantEntry) -> Result<(), AnyError> {
     let format = e.format;
     let blocks = e.blocks;
     let field = e.field;
-    println!(rt, "number {number}: occasion {occasion} cell {cell} format {format} blocks {blocks} field {field}")?;
+    println!(
+        rt,
+        "number {number}: occasion {occasion} cell {cell} format {format} blocks {blocks} field {field}"
+    )?;
     Ok(())
 }
 
 fn run(rt: &LibcRuntime) -> Result<(), AnyError> {
-    let config = Config { cells: 2, occasions: 3, width: 0, mode: 0, first: [0; 16] };
+    let config = Config {
+        cells: 2,
+        occasions: 3,
+        width: 0,
+        mode: 0,
+        first: [0; 16],
+    };
     let both = [grant(0), grant(1)];
     let second = [grant(1)];
     let calls = [
-        Call { occasion: 0, grants: &both },
+        Call {
+            occasion: 0,
+            grants: &both,
+        },
         // Declined, since its occasion has been numbered.
-        Call { occasion: 0, grants: &second },
-        Call { occasion: 1, grants: &second },
-        Call { occasion: 2, grants: &both },
+        Call {
+            occasion: 0,
+            grants: &second,
+        },
+        Call {
+            occasion: 1,
+            grants: &second,
+        },
+        Call {
+            occasion: 2,
+            grants: &both,
+        },
     ];
     let mut table = [NO_ENTRY; 8];
     let mut marks = [Mark::Negative; 0];

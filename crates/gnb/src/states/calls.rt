@@ -70,7 +70,12 @@ fn check_occasion(batch: &BatchState, occasion: u32) -> Result<(), Refusal>
 }
 
 // A call is judged: the occasion, each grant, then the table.
-fn check_call(batch: &BatchState, table: usize, occasion: u32, grants: &[Grant]) -> Result<(), Refusal>
+fn check_call(
+    batch: &BatchState,
+    table: usize,
+    occasion: u32,
+    grants: &[Grant],
+) -> Result<(), Refusal>
     requires { ⌜ now batch .config .cells ≤ 16 ⌝ ∗ ⌜ now batch .numbered ≤ 512 ⌝ }
     ensures is { λ r. ⌜ r ≡ allowed (call-refused (now (batch .entry)) table occasion (now (grants .entry))) ⌝ }
     ensures few { λ r. ⌜ made r (λ _. length (now (grants .entry)) ≤ now (batch .entry) .config .cells) ⌝ }
@@ -118,7 +123,13 @@ fn counter_of(span: u32, k: u32) -> u32
 }
 
 // Places the entries of a call's grants in the table, each by its counter, behind the first `numbered`.
-fn place_entries(config: &Config, occasion: u32, numbered: u32, grants: &[Grant], table: &mut [GrantEntry])
+fn place_entries(
+    config: &Config,
+    occasion: u32,
+    numbered: u32,
+    grants: &[Grant],
+    table: &mut [GrantEntry],
+)
     requires small { ⌜ numbered + length (now grants) ≤ 1024 ⌝ }
     requires space { ⌜ numbered + length (now grants) ≤ length (now table) ⌝ }
     ensures { λ _. ⌜ now (table .exit) ≡ written (now (table .entry)) numbered (entries-of (now (config .entry)) occasion (numbered + length (now (grants .entry))) numbered (now (grants .entry))) ⌝ }
@@ -130,7 +141,11 @@ fn place_entries(config: &Config, occasion: u32, numbered: u32, grants: &[Grant]
     for a in grants {
         k += 1;
         // The place is in the table: its space has been judged.
-        let _ = placer.place(table, counter_of(span, k), entry_of(config, occasion, total, k, a));
+        let _ = placer.place(
+            table,
+            counter_of(span, k),
+            entry_of(config, occasion, total, k, a),
+        );
     }
 }
 
@@ -158,7 +173,11 @@ fn count_blocks(grants: &[Grant]) -> u32
 fn entry_in(table: &[GrantEntry], place: usize) -> Option<GrantEntry>
     ensures { λ r. ⌜ r ≡ front (drop place (now (table .entry))) ⌝ }
 {
-    if place < table.len() { Some(table[place]) } else { None }
+    if place < table.len() {
+        Some(table[place])
+    } else {
+        None
+    }
 }
 
 impl BatchState {
@@ -184,13 +203,24 @@ impl BatchState {
 
 impl Numbering {
     // Numbers the grants of one occasion on behind those before, and answers how many are numbered now; a declined call changes nothing.
-    pub fn number(&mut self, table: &mut [GrantEntry], occasion: u32, grants: &[Grant]) -> Result<u32, Refusal>
+    pub fn number(
+        &mut self,
+        table: &mut [GrantEntry],
+        occasion: u32,
+        grants: &[Grant],
+    ) -> Result<u32, Refusal>
         ensures answer { λ r. ⌜ r ≡ call-answer (now (self .entry) .batch) (length (now (table .entry))) occasion (now (grants .entry)) ⌝ }
         ensures batch { λ _. ⌜ now (self .exit) .batch ≡ batch-after (now (self .entry) .batch) (length (now (table .entry))) occasion (now (grants .entry)) ⌝ }
         ensures table { λ _. ⌜ now (table .exit) ≡ table-after (now (self .entry) .batch) occasion (now (grants .entry)) (now (table .entry)) ⌝ }
     {
         check_call(&self.batch, table.len(), occasion, grants)?;
-        place_entries(&self.batch.config, occasion, self.batch.numbered, grants, table);
+        place_entries(
+            &self.batch.config,
+            occasion,
+            self.batch.numbered,
+            grants,
+            table,
+        );
         let numbered = self.batch.numbered + grants.len() as u32;
         let granted = self.batch.granted + count_blocks(grants);
         self.batch.last = Some(occasion);

@@ -42,7 +42,12 @@ fn is_in_order(config: &Config, sps: &[SpsEntry]) -> bool
 
 impl Numbering {
     // Opens a batch. The table is not judged; the marks of the SPS entries become unanswered.
-    pub fn open(config: Config, sps: &[SpsEntry], _table: &[GrantEntry], marks: &mut [Mark]) -> Result<Numbering, Refusal>
+    pub fn open(
+        config: Config,
+        sps: &[SpsEntry],
+        _table: &[GrantEntry],
+        marks: &mut [Mark],
+    ) -> Result<Numbering, Refusal>
         ensures answer { λ r. ⌜ batch-of r ≡ opened config (now (sps .entry)) (length (now (marks .entry))) ⌝ }
         ensures marks { λ _. ⌜ now (marks .exit) ≡ marks-opened config (now (sps .entry)) (now (marks .entry)) ⌝ }
     {
@@ -57,6 +62,14 @@ impl Numbering {
         }
         clear_marks(marks, sps.len());
         let count = sps.len() as u32;
-        Ok(Numbering { batch: BatchState { config, sps: count, last: None, numbered: 0, granted: count } })
+        Ok(Numbering {
+            batch: BatchState {
+                config,
+                sps: count,
+                last: None,
+                numbered: 0,
+                granted: count,
+            },
+        })
     }
 }

@@ -28,7 +28,13 @@ impl Numbering {
 
 // Opens a batch, numbers each call in turn and closes it. Nothing is sent, so that no report is awaited: the table tells what would be sent,
 // and the answer is the length of the report that would be expected.
-pub fn plan(config: Config, sps: &[SpsEntry], calls: &[Call], table: &mut [GrantEntry], marks: &mut [Mark]) -> Result<usize, Refusal>
+pub fn plan(
+    config: Config,
+    sps: &[SpsEntry],
+    calls: &[Call],
+    table: &mut [GrantEntry],
+    marks: &mut [Mark],
+) -> Result<usize, Refusal>
     ensures answer { λ r. ⌜ r ≡ planned config (now (sps .entry)) (map call-of (now (calls .entry))) (now (table .entry)) (length (now (marks .entry))) ⌝ }
     ensures table { λ _. ⌜ now (table .exit) ≡ table-planned config (now (sps .entry)) (map call-of (now (calls .entry))) (now (table .entry)) (length (now (marks .entry))) ⌝ }
     ensures marks { λ _. ⌜ now (marks .exit) ≡ marks-opened config (now (sps .entry)) (now (marks .entry)) ⌝ }

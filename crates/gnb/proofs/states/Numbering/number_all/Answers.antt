@@ -6,10 +6,9 @@ use Rattle.gnb.proofs.states.Numbering.number_all.Needs as need
 pub loop-call-again : need.loop-call-again
 loop-call-again c =
     let b = c .loop-call .self .batch in
-    let t = c .loop-call .table in
-    (
+    let t = c .loop-call .table in (
       run-more batch-run (λ _ _ _ _. refl) b t (c .args .calls .now) (c .loop-call .call-index) _ (c .loop-call .inv .0) _ _ (c .loop-call-test .taken) (c .number .ensures .batch) (c .number .ensures .table),
-      run-more table-run (λ _ _ _ _. refl) b t (c .args .calls .now) (c .loop-call .call-index) _ (c .loop-call .inv .1) _ _ (c .loop-call-test .taken) (c .number .ensures .batch) (c .number .ensures .table)
+      run-more table-run (λ _ _ _ _. refl) b t (c .args .calls .now) (c .loop-call .call-index) _ (c .loop-call .inv .1) _ _ (c .loop-call-test .taken) (c .number .ensures .batch) (c .number .ensures .table),
     )
 
 pub returns : need.returns

@@ -17,11 +17,10 @@ returns-in-Break-check-grant c =
 
 pub loop-a-again : need.loop-a-again
 loop-a-again c =
-    let w = grant-within (c .args .config .now) (c .args .occasion) (c .loop-a .lowest) (getD (c .args .grants .now) (c .loop-a .a-index) record { cell = 0; format = 0; blocks = 0 }) (allowed-none _ _ (c .in-Continue-check-grant .ensures tt)) in
-    (
+    let w = grant-within (c .args .config .now) (c .args .occasion) (c .loop-a .lowest) (getD (c .args .grants .now) (c .loop-a .a-index) record { cell = 0; format = 0; blocks = 0 }) (allowed-none _ _ (c .in-Continue-check-grant .ensures tt)) in (
       goes-on (c .args .config .now) (c .args .occasion) (c .loop-a .lowest) (c .args .grants .now) (c .loop-a .a-index) _ (c .loop-a .inv .0) record { cell = 0; format = 0; blocks = 0 } (c .loop-a-test .taken) _ (c .in-Continue-check-grant .ensures tt),
       omega (arith, w .1),
-      omega (arith, w .0)
+      omega (arith, w .0),
     )
 
 pub returns : need.returns

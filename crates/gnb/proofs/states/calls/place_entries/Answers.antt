@@ -16,12 +16,11 @@ loop-a-again c =
     let span = c .span-span .result in
     let some : 0 < span = grind (arith, tells, c .span-span .ensures) in
     let k = c .loop-a .k in
-    let small : k < 4294967295 = omega arith in
-    (
+    let small : k < 4294967295 = omega arith in (
       omega arith,
       placer-on span some k small (c .loop-a .placer) (c .loop-a .inv .1) _ (c .counter-of .ensures) _ (length (c .loop-a .table)) (omega arith) (c .place .ensures .placer),
       written-on span some k small (c .loop-a .placer) (c .loop-a .inv .1) _ (c .counter-of .ensures) (c .args .config .now) (c .args .occasion) _ (c .args .grants .now) (c .loop-a .a-index)
-      record { cell = 0; format = 0; blocks = 0 } (c .loop-a .table) _ _ _ (c .loop-a-test .taken) (c .entry-of .ensures) (c .place .ensures .slots) (c .loop-a .inv .2)
+          record { cell = 0; format = 0; blocks = 0 } (c .loop-a .table) _ _ _ (c .loop-a-test .taken) (c .entry-of .ensures) (c .place .ensures .slots) (c .loop-a .inv .2),
     )
 
 pub returns : need.returns
