@@ -6,7 +6,7 @@ use native.Mathlib.Omega.{arith}
 use lib.ListN.{length, take, getD, set}
 use Rattle.std.specs.declared.option.Option.{Option}
 use Rattle.std.specs.declared.option.Option.the-variants.{Some, None}
-use Rattle.std.proofs.shelf.Lists.{map-more, map-push, take-all, take-more-set, nil-from-length}
+use Rattle.std.proofs.shelf.Lists.{map-more, map-append, take-all, take-more-set, nil-from-length}
 use Rattle.trace.specs.declared.records.Record.{Record}
 use Rattle.trace.specs.Numbers.{number-at}
 use Rattle.trace.specs.Records.{entry-of}
@@ -26,12 +26,8 @@ chosen-more f view rs i d o h e =
     ap (chosen f) (map-more view rs i d h) ∙ chosen-append f (map view (take i rs)) (view (getD rs i d) ∷ []) ∙ ap (λ q. chosen f (map view (take i rs)) ++ if-some q []) (sym e)
 
 -- a part of what is chosen, kept in a list of its own
-module _ {P Z : Type 0} (part : P → Z) (xs ys : List P) (o : Option P) (zs ws : List Z) (e : ys ≡ xs ++ if-some o []) (v : zs ≡ map part xs) where
-  pub part-more : (p : P) → o ≡ Some p → ws ≡ zs ++ part p ∷ [] → ws ≡ map part ys
-  part-more p is w = w ∙ ap (λ l. l ++ part p ∷ []) v ∙ sym (map-push part xs p) ∙ ap (map part) (sym (e ∙ ap (λ q. xs ++ if-some q []) is))
-
-  pub part-same : o ≡ None → ws ≡ zs → ws ≡ map part ys
-  part-same is w = w ∙ v ∙ ap (map part) (sym (e ∙ ap (λ q. xs ++ if-some q []) is ∙ append-nil xs))
+pub part-more : {P Z : Type 0} (part : P → Z) (xs ys more : List P) (zs ws : List Z) → ys ≡ xs ++ more → zs ≡ map part xs → ws ≡ zs ++ map part more → ws ≡ map part ys
+part-more part xs ys more zs ws e v w = w ∙ ap (λ l. l ++ map part more) v ∙ sym (map-append part xs more) ∙ ap (map part) (sym e)
 
 -- no record has no configuration, and else the first has it
 pub config-none : (rs : List Record) → length rs ≡ 0 → no-config ≡ config-in (map entry-of rs)

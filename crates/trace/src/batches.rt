@@ -1,13 +1,14 @@
 // What the UE has of a trace: the configuration, the arrivals and the SPS receptions, with the offsets of their records.
 ghost use mathlib.Core.Path.{_≡_};
-ghost use mathlib.Core.List.{map};
+ghost use mathlib.Core.List.{map, _++_, []};
 ghost use Prim.Native.Nat.{ℕ};
 ghost use lib.ListN.{getD};
+ghost use Rattle.std.specs.Of.Vec.{vec-items};
 ghost use Rattle.std.specs.Vec.{made};
 ghost use Rattle.std.specs.declared.option.Option.{Option};
 ghost use Rattle.trace.specs.Numbers.{number-at};
 ghost use Rattle.trace.specs.Records.{Entry, entry-of};
-ghost use Rattle.trace.specs.Batches.{or-zero, numbers-from, config-of, config-in, arrival-of, sps-of, chosen, Apart, contents, Batched};
+ghost use Rattle.trace.specs.Batches.{or-zero, numbers-from, config-of, config-in, arrival-of, sps-of, chosen, if-some, firsts, seconds, Apart, contents, Batched};
 use super::faults::Failure;
 use super::faults::FailureFromAllocError;
 use super::files::read_records;
@@ -176,6 +177,21 @@ impl FromRecord for SpsOutcome as SpsOutcomeFromRecord {
     }
 }
 
+// Keeps what a record says, if it says something, and its offset.
+fn keep<T: Drop>(
+    values: &mut Vec<T>,
+    offsets: &mut Vec<usize>,
+    said: Option<(T, usize)>,
+) -> Result<(), AllocError>
+    ensures { λ r. ⌜ made r (λ _. (vec-items (now (values .exit)) ≡ vec-items (now (values .entry)) ++ firsts (if-some said [])) × (vec-items (now (offsets .exit)) ≡ vec-items (now (offsets .entry)) ++ seconds (if-some said []))) ⌝ }
+{
+    if let Some((value, at)) = said {
+        values.push(value)?;
+        offsets.push(at)?;
+    }
+    Ok(())
+}
+
 // What the records of one kind say, in their order, and their offsets.
 fn collect<T: FromRecord + Drop>(
     heap: Global,
@@ -186,10 +202,7 @@ fn collect<T: FromRecord + Drop>(
     let mut values = Vec::new(heap);
     let mut offsets = Vec::new(heap);
     for record in records {
-        if let Some((value, at)) = T::from_record(record) {
-            values.push(value)?;
-            offsets.push(at)?;
-        }
+        keep(&mut values, &mut offsets, T::from_record(record))?;
     }
     Ok((values, offsets))
 }

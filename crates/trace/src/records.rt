@@ -11,11 +11,11 @@ use super::faults::broken;
 use super::numbers::read_number;
 
 // The kinds: a configuration stands first and nowhere else, the others mix freely.
-const CONFIGURATION: u32 = 1;
+pub const CONFIGURATION: u32 = 1;
 
-const ASSIGNMENT: u32 = 2;
+pub const ASSIGNMENT: u32 = 2;
 
-const SPS: u32 = 3;
+pub const SPS: u32 = 3;
 
 // Bytes of the trace, and the offset of the first.
 #[derive(Clone, Copy)]

@@ -1,0 +1,4 @@
+pub mod Coding
+pub mod Writing
+pub mod Laws
+pub mod Example
