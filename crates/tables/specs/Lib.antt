@@ -1,0 +1,9 @@
+pub mod Setups
+pub mod Rows
+pub mod Dai
+pub mod Worked
+pub mod Counting
+pub mod PlaceBits
+pub mod Refused
+pub mod FirstFaults
+pub mod Longest
