@@ -7,3 +7,4 @@ pub mod PlaceBits
 pub mod Refused
 pub mod FirstFaults
 pub mod Longest
+pub mod Numbered

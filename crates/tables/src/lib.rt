@@ -4,6 +4,7 @@ ghost use Rattle.tables.specs.Counting.{Counters-told, Totals-told, Uncounted-
 ghost use Rattle.tables.specs.Dai.{Numbers-told, Fields-read};
 ghost use Rattle.tables.specs.FirstFaults.{First-told};
 ghost use Rattle.tables.specs.Longest.{One-block-told, Two-blocks-told, Length-order-told};
+ghost use Rattle.tables.specs.Numbered.{Openings-told, Calls-told, Reasons-told, Sending-told};
 ghost use Rattle.tables.specs.PlaceBits.{Places-told, Sps-told};
 ghost use Rattle.tables.specs.Refused.{Refusals-numbered, Configurations-judged, Arrivals-judged, Fields-judged, Blocks-judged, Totals-judged, Uncounted-judged, Sps-judged, Whole-judged};
 ghost use Rattle.tables.specs.Worked.{Fields-worked, Batches-worked, Slots-worked};
@@ -69,6 +70,16 @@ pub fn longest_told() -> u8
     ensures one { λ _. ⌜ One-block-told ⌝ }
     ensures two { λ _. ⌜ Two-blocks-told ⌝ }
     ensures order { λ _. ⌜ Length-order-told ⌝ }
+{
+    0
+}
+
+// The gNB: openings, numbering calls and their answers, which reason is told first, fields and lengths.
+pub fn numbering_told() -> u8
+    ensures openings { λ _. ⌜ Openings-told ⌝ }
+    ensures calls { λ _. ⌜ Calls-told ⌝ }
+    ensures reasons { λ _. ⌜ Reasons-told ⌝ }
+    ensures sending { λ _. ⌜ Sending-told ⌝ }
 {
     0
 }
