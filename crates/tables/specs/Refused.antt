@@ -136,9 +136,9 @@ totals =
 abbrev pub Totals-judged : Type 0
 Totals-judged = Holds totals
 
--- no cell counts in any of three occasions
+-- no cell counts in any of three occasions, nor would a third
 abbrev none-counts : Config
-none-counts = counted-from (3 ∷ 3 ∷ []) two-cells
+none-counts = counted-from (3 ∷ 3 ∷ 3 ∷ []) two-cells
 
 -- cell 1 alone counts
 abbrev one-counts : Config
