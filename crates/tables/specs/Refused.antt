@@ -155,6 +155,7 @@ uncounted =
     ∷ row "its outcome is judged" (alone none-counts (arrives 0 0 by-1-0 0 (blocks 1 2 0))) (Declined 5 (Arrival 0))
     ∷ row "its total is not judged" (batch none-counts (arrives 0 0 by-1-1 1 ack ∷ arrives 0 1 by-1-1 6 ack ∷ [])) (reports "")
     ∷ row "no total is judged by its own" (batch one-counts (arrives 1 0 by-1-1 3 ack ∷ arrives 1 1 by-1-1 5 ack ∷ [])) (reports "01")
+    ∷ row "its total is not judged by a counted one" (batch (counted-from (0 ∷ 3 ∷ []) two-cells) (arrives 1 0 by-1-1 1 ack ∷ arrives 1 1 by-1-1 6 ack ∷ [])) (reports "10")
     ∷ []
 
 abbrev pub Uncounted-judged : Type 0
