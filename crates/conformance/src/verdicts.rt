@@ -71,7 +71,7 @@ pub struct Tally {
 
 impl Tally {
     // With one more line.
-    pub fn count(self, verdict: &Verdict) -> Tally
+    pub(crate) fn count(self, verdict: &Verdict) -> Tally
         requires { ⌜ self .compared + 1 < 2 ^ 64 ⌝ ∗ ⌜ self .differ ≤ self .compared ⌝ }
         ensures { λ r. ⌜ r ≡ counted self (outcome-of (now (verdict .entry))) ⌝ }
     {

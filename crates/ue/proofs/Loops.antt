@@ -16,7 +16,7 @@ use Rattle.std.proofs.shelf.Ways.{tells}
 use Rattle.harq.specs.declared.configs.Config.{Config}
 use Rattle.harq.specs.Words.{those, all-of, counting-from}
 use Rattle.harq.specs.Configs.{in-range}
-use Rattle.harq.proofs.Rows.{last-or-push}
+use Rattle.ue.proofs.Walked.{last-of-push}
 use Rattle.ue.specs.declared.arrivals.Arrival.{Arrival}
 use Rattle.ue.specs.Batches.{counting, counted}
 use Rattle.ue.specs.Checks.{last-of, rises-above, arrivals-judged}
@@ -135,10 +135,6 @@ module _ (g : Config) (xs : List Arrival) (s : Sorted Above xs) (h : All (In-ran
       in
       all-of-same (λ m. all-of (λ c. those (is-at m c) xs) (counting-from 0 (g .cells))) (keyed (λ a. a .occasion) xs) cells-meet (counting-from 0 (g .occasions))
       ∙ met-all (λ a. a .occasion) (g .occasions) xs rise low
-
-last-of-push : (xs : List Arrival) (a : Arrival) → last-of (xs ++ a ∷ []) ≡ Some a
-last-of-push [] a = refl
-last-of-push (x ∷ xs) a = ap Some (last-or-push x xs a)
 
 module _ (g : Config) where
   all-above : (xs earlier : List Arrival) (p : Arrival) → last-of earlier ≡ Some p → Passing g earlier xs → All (Above p) xs

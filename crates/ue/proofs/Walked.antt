@@ -57,7 +57,7 @@ those-few test (x ∷ xs) =
     let h = those-few test xs in
     elim (test x) as (λ b. length (cond b (x ∷ those test xs) (those test xs)) ≤ suc (length xs)) [ true ↦ omega arith | false ↦ omega arith ]
 
-last-of-push : (xs : List Arrival) (a : Arrival) → last-of (xs ++ a ∷ []) ≡ Some a
+pub last-of-push : (xs : List Arrival) (a : Arrival) → last-of (xs ++ a ∷ []) ≡ Some a
 last-of-push [] a = refl
 last-of-push (x ∷ xs) a = ap Some (last-or-push x xs a)
 

@@ -33,7 +33,7 @@ fn put_place<S: BitSink>(config: &Config, slot: Slot, sink: &mut S)
 }
 
 // The bits of each place.
-pub fn put_places<S: BitSink>(config: &Config, slots: &[Slot], sink: &mut S)
+pub(crate) fn put_places<S: BitSink>(config: &Config, slots: &[Slot], sink: &mut S)
     requires { ⌜ bits-per-place (now config) * length (now slots) ≤ room (now sink) ⌝ }
     ensures { λ _. ⌜ Gains taken room took (now (sink .entry)) (all-of (place-bits (now (config .entry) .mode)) (now (slots .entry))) (now (sink .exit)) ⌝ }
 {
@@ -43,7 +43,7 @@ pub fn put_places<S: BitSink>(config: &Config, slots: &[Slot], sink: &mut S)
 }
 
 // The bit of each SPS reception.
-pub fn put_sps<S: BitSink>(sps: &[SpsOutcome], sink: &mut S)
+pub(crate) fn put_sps<S: BitSink>(sps: &[SpsOutcome], sink: &mut S)
     requires { ⌜ length (now sps) ≤ room (now sink) ⌝ }
     ensures { λ _. ⌜ Gains taken room took (now (sink .entry)) (map sps-bit (now (sps .entry))) (now (sink .exit)) ⌝ }
 {

@@ -227,7 +227,7 @@ fn check_size(
 }
 
 // All checks in their order: the slot count, or the first that refuses.
-pub fn judge(
+pub(crate) fn judge(
     config: &Config,
     arrivals: &[Arrival],
     sps: &[SpsOutcome],

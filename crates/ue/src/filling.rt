@@ -12,7 +12,7 @@ use harq::Config;
 use harq::Placer;
 
 // Fills the first slots with NACK.
-pub fn fill_nack(slots: &mut [Slot], count: usize)
+pub(crate) fn fill_nack(slots: &mut [Slot], count: usize)
     requires { ⌜ count ≤ length (now slots) ⌝ }
     ensures { λ _. ⌜ now (slots .exit) ≡ filled count (now (slots .entry)) ⌝ }
 {
@@ -43,7 +43,7 @@ fn place_one(config: &Config, a: &Arrival, placer: &mut Placer, slots: &mut [Slo
 }
 
 // Writes the outcomes of each counted arrival at its place.
-pub fn place_all(config: &Config, arrivals: &[Arrival], slots: &mut [Slot])
+pub(crate) fn place_all(config: &Config, arrivals: &[Arrival], slots: &mut [Slot])
     ensures { λ _. ⌜ now (slots .exit) ≡ placed-by (now (config .entry)) (fresh (span (now (config .entry)))) (now (arrivals .entry)) (now (slots .entry)) ⌝ }
 {
     let mut placer = Placer::new(config.span());
