@@ -1,4 +1,6 @@
 // Reads a trace on standard input and prints the line of its report or of its fault.
+#![tactic(auto)]
+
 use std::io::Read;
 use trace::answers::answer;
 

@@ -1,4 +1,6 @@
 // Compares outside vectors from standard input with what the library answers.
+#![tactic(auto)]
+
 mod hex;
 #[cfg(test)]
 mod tests;

@@ -1,4 +1,6 @@
 // Downlink assignment index (DAI) fields: layouts of one, two and four bits.
+#![tactic(auto)]
+
 pub mod layouts;
 mod tables;
 

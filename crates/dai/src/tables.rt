@@ -25,8 +25,8 @@ pub(crate) fn value_at(table: &[u32], code: u32) -> u32
 
 // Both tables follow the rule.
 pub fn tables_follow() -> u8
-    ensures* two { do ⌜ FollowsRule 2 (← (⟦OF_TWO⟧).exit) ⌝ }
-    ensures* four { do ⌜ FollowsRule 4 (← (⟦OF_FOUR⟧).exit) ⌝ }
+    ensures two { FollowsRule 2 OF_TWO }
+    ensures four { FollowsRule 4 OF_FOUR }
 {
     ruled(&OF_TWO);
     ruled(&OF_FOUR);

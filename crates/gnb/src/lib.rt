@@ -1,4 +1,6 @@
 // The gNB's side: numbering of assignments, and the length of the report that answers them.
+#![tactic(auto)]
+
 pub mod batches;
 pub mod grants;
 pub mod marks;

@@ -1,4 +1,6 @@
 // What both cards share: configuration, refusals, SPS lists, placing by counter.
+#![tactic(auto)]
+
 pub mod configs;
 pub mod placing;
 pub mod refusals;

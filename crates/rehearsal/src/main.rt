@@ -1,4 +1,6 @@
 // Plans a batch at the gNB and prints what would be sent: two cells, three occasions, five assignments by format 1_1.
+#![tactic(auto)]
+
 use anyhow::anyhow;
 use gnb::{Call, Grant, GrantEntry, Mark, Marks, plan};
 use harq::Config;

@@ -1,4 +1,6 @@
 // Sinks of bits: ends over lent memory, layers over any sink.
+#![tactic(auto)]
+
 ghost use Rattle.std.specs.Prelude.{◌≡◌, ℕ, ◌-◌, Bool, List, []};
 ghost use Rattle.sink.specs.Sink.{answer_at, gained};
 

@@ -1,5 +1,7 @@
 // Tables that hold of the definitions, one function for each: its contract is the table. Where a definition changes so that a row no longer
 // holds, the check shows the row by its name, with what came.
+#![tactic(auto)]
+
 ghost use Rattle.tables.specs.Counting.{CountersTold, TotalsTold, UncountedTold};
 ghost use Rattle.tables.specs.Dai.{NumbersTold, FieldsRead};
 ghost use Rattle.tables.specs.FirstFaults.{FirstTold};

@@ -1,4 +1,6 @@
 // Traces of a batch: numbers, records, and faults with their place.
+#![tactic(auto)]
+
 pub mod answers;
 pub mod batches;
 pub mod faults;

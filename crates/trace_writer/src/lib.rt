@@ -1,4 +1,6 @@
 // Writing a trace, so that it is read back as it was.
+#![tactic(auto)]
+
 pub mod numbers;
 mod records;
 pub mod traces;

@@ -1,4 +1,6 @@
 // The UE's side: the HARQ-ACK report for the assignments that arrived.
+#![tactic(auto)]
+
 pub mod arrivals;
 mod bits;
 mod checks;
