@@ -14,8 +14,8 @@ parts_below bits span unit number numbered whole below =
     let h = mul-add-lt (number_code span number) unit (number_code span numbered) span (omega arith) (omega arith) in
     omega (arith, h, mul_comm unit (number_code span number), mul_comm unit span)
 
-pub overflow-add-result : goal.overflow-add-result
-overflow-add-result g c =
+pub overflow_add-result : goal.overflow_add-result
+overflow_add-result g c =
     let met = g.met.L.CounterLayout in
     let fits = pow_below g.L.CounterLayout.bits 32 met.narrow in
     let less = parts_below _ _ _ c.args.number c.args.numbered met.whole g.met.L.TotalLayout.below in

@@ -14,5 +14,5 @@ pub returns : goal.returns
 returns c =
     record {
       found = search rules;
-      bits = bits_set c.args.bytes.now c.args.index c.with-bit.result c.args.bit (omega arith) c.with-bit.ensures;
+      bits = bits_set c.args.bytes.now c.args.index c.with_bit.result c.args.bit (omega arith) c.with_bit.ensures;
     }

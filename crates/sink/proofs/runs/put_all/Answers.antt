@@ -9,7 +9,7 @@ loop-bit-preserved g c =
     let s = c.loop-bit.sink in
     let bits = c.args.bits.now in
     let i = c.loop-bit.bit-index in
-    let h : 0 < g.S.BitSink.room s = omega (arith, c.loop-bit.invariant.1, c.room-left.ensures.room) in
+    let h : 0 < g.S.BitSink.room s = omega (arith, c.loop-bit.invariant.1, c.room_left.ensures.room) in
     let gains = gained_room (g.S.BitSink.room s) (g.S.BitSink.taken s) (get_or bits i false) h in
     let more = run_more (g.S.BitSink.taken c.args.sink.now) bits i false c.loop-bit-test.true in (
       cc,
@@ -25,7 +25,7 @@ returns g c =
     let bits = c.args.bits.now in
     let start = c.args.sink.now in
     let n = g.S.BitSink.room start in
-    let fits : length bits ≤ n = omega (arith, c.room-left.ensures.room) in
+    let fits : length bits ≤ n = omega (arith, c.room_left.ensures.room) in
     let whole = take_all c.loop-bit.bit-index bits c.loop-bit-test.false in
     let steps : (first : g.row.S.Denot) (old : List Bool) → g.S.BitSink.took first old start → g.S.BitSink.took first (all_gained n old bits) c.loop-bit.sink =
     λ first old t.
@@ -36,7 +36,7 @@ returns g c =
       answer = search rules;
       list = c.loop-bit.invariant.0 ∙ ap (λ v. g.S.BitSink.taken start ++ v) whole ∙ sym (all_gained_room n (g.S.BitSink.taken start) bits fits);
       left = search rules;
-      took = steps start [] c.room-left.ensures.none;
+      took = steps start [] c.room_left.ensures.none;
       on = steps;
       kept = λ e. absurd (omega arith);
     }

@@ -7,4 +7,4 @@ use Rattle.trace.proofs.answers.batch_line.Goals as goal
 pub returns-in-Ok : goal.returns-in-Ok
 returns-in-Ok c =
     let line = line_shown (held c.args.batch.now) c.args.end c.in-Ok.length (replicate 1706 48) _ c.in-Ok.ensures.answer refl c.in-Ok.ensures.digits in
-    IfOk-weaker c.report-line.result _ _ (λ s e. e ∙ line) c.report-line.ensures
+    IfOk-weaker c.report_line.result _ _ (λ s e. e ∙ line) c.report_line.ensures

@@ -9,9 +9,9 @@ pub loop-record-preserved : goal.loop-record-preserved
 loop-record-preserved g c =
     let l = c.loop-record in
     let was = chosen g.T.FromRecord.said (map entry_of (take l.record-index c.args.records.now)) in
-    let more = chosen_more g.T.FromRecord.said entry_of c.args.records.now l.record-index _ c.from-record.result c.loop-record-test.true c.from-record.ensures in
-    let kept = c.in-ok-keep.ensures in
-    let said = if_some c.from-record.result [] in (
+    let more = chosen_more g.T.FromRecord.said entry_of c.args.records.now l.record-index _ c.from_record.result c.loop-record-test.true c.from_record.ensures in
+    let kept = c.in_ok-keep.ensures in
+    let said = if_some c.from_record.result [] in (
       part_more (λ p. p.0) was _ said (vec_items l.values) (vec_items c.keep.new.values) more l.invariant.0 kept.0,
       part_more (λ p. p.1) was _ said (vec_items l.offsets) (vec_items c.keep.new.offsets) more l.invariant.1 kept.1,
     )

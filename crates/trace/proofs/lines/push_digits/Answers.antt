@@ -12,10 +12,10 @@ loop-digit-preserved c =
     let xs = c.args.digits.now in
     let i = l.digit-index in
     let was = string_bytes c.args.line.now in
-    let small : c.shown-as.result < 128 = grind (arith, nat_tests, c.shown-as.ensures) in
-    pushed (encode c.shown-as.result) l.invariant c.in-ok-push.was c.push.ensures.bytes
+    let small : c.shown_as.result < 128 = grind (arith, nat_tests, c.shown_as.ensures) in
+    pushed (encode c.shown_as.result) l.invariant c.in_ok-push.was c.push.ensures.bytes
     ∙ ap (λ e. (was ++ map shown_digit (take i xs)) ++ e) (c.push.ensures.ascii small)
-    ∙ ap (λ y. (was ++ map shown_digit (take i xs)) ++ y ∷ []) c.shown-as.ensures
+    ∙ ap (λ y. (was ++ map shown_digit (take i xs)) ++ y ∷ []) c.shown_as.ensures
     ∙ append_assoc was (map shown_digit (take i xs)) (shown_digit (get_or xs i 0) ∷ [])
     ∙ ap (λ ys. was ++ ys) (sym (map_more shown_digit xs i 0 c.loop-digit-test.true))
 

@@ -10,12 +10,12 @@ use Rattle.trace.proofs.numbers.read_number.Goals.{then-loop-next-test+else-weig
 pub returns-then-byte-lt128 : goal.returns-then-byte-lt128
 returns-then-byte-lt128 c =
     let e = c.loop-next.invariant.3 ∙ outcome_last _ _ _ c.loop-next.value c.loop-next.weight c.loop-next-test.true c.if-byte-lt128.true in
-    record { value = c.close-number.ensures ∙ sym e; within = search rules }
+    record { value = c.close_number.ensures ∙ sym e; within = search rules }
 
 pub loop-next-preserved : goal.loop-next-preserved
 loop-next-preserved c =
     let l = c.loop-next in
-    let small : c.from.result ≤ 127 = omega (arith, c.type-inv.bytes l.next) in
+    let small : c.from.result ≤ 127 = omega (arith, c.type_inv.bytes l.next) in
     let e = outcome_next c.args.bytes.now c.args.at l.next l.value l.weight c.loop-next-test.true c.if-byte-lt128.false l.invariant.0 in
     (omega arith, omega (arith, mul-le l.weight c.from.result l.weight 127 (omega arith) small), omega arith, rw c.from.ensures (l.invariant.3 ∙ e))
 

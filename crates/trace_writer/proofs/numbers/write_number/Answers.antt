@@ -9,11 +9,11 @@ loop-rest-init c = write_first c.args.value _ (omega arith)
 pub loop-rest-preserved : goal.loop-rest-preserved
 loop-rest-preserved c =
     let i = c.loop-rest.invariant in
-    let p = chosen _ _ _ _ c.push.ensures.items (ap is_ok c.in-ok-push.was) in
-    simp (p, c.lowest-group.ensures) (write_more i.0 c.loop-rest.rest _ _ c.loop-rest-test.true i.1 i.2)
+    let p = chosen _ _ _ _ c.push.ensures.items (ap is_ok c.in_ok-push.was) in
+    simp (p, c.lowest_group.ensures) (write_more i.0 c.loop-rest.rest _ _ c.loop-rest-test.true i.1 i.2)
 
 pub returns : goal.returns
 returns c =
     let i = c.loop-rest.invariant in
-    let p = chosen _ _ _ _ c.push-2.ensures.items (ap is_ok c.in-ok-push-2.was) in
+    let p = chosen _ _ _ _ c.push-2.ensures.items (ap is_ok c.in_ok-push-2.was) in
     p ∙ write_last i.0 c.loop-rest.rest _ _ (omega arith) i.2

@@ -8,8 +8,8 @@ returns c =
     let a = c.args.arrival.now in
     let out = take a.blocks a.outcomes in
     let none = vec_items c.new-body.result in
-    let numbers = vec_items c.write-numbers.new.out in
-    let items = vec_items c.extend-from-slice.new.self in
-    let e = body_is none numbers items (arrival_numbers a) out c.new-body.ensures.items _ c.in-ok-write-numbers.ensures c.arrival_numbers.ensures (c.in-ok-extend-from-slice.ensures.items ∙ ap (λ l. numbers ++ l) c.up-to.ensures.value) in
-    let few = ap length c.up-to.ensures.value in
-    record { value = e; short = body_short none numbers items (arrival_numbers a) out _ c.extend-from-slice.new.self.ok.0 e (omega arith) }
+    let numbers = vec_items c.write_numbers.new.out in
+    let items = vec_items c.extend_from_slice.new.self in
+    let e = body_is none numbers items (arrival_numbers a) out c.new-body.ensures.items _ c.in_ok-write_numbers.ensures c.arrival_numbers.ensures (c.in_ok-extend_from_slice.ensures.items ∙ ap (λ l. numbers ++ l) c.up_to.ensures.value) in
+    let few = ap length c.up_to.ensures.value in
+    record { value = e; short = body_short none numbers items (arrival_numbers a) out _ c.extend_from_slice.new.self.ok.0 e (omega arith) }

@@ -10,8 +10,8 @@ returns c =
     let k = c.args.config.now in
     let rest = flat_map coded (take k.cells k.first) in
     let none = vec_items c.new-body.result in
-    let numbers = vec_items c.write-numbers.new.out in
-    let items = vec_items c.write-numbers-2.new.out in
-    let e = body_is none numbers items (config_numbers k) rest c.new-body.ensures.items _ c.in-ok-write-numbers.ensures c.config_numbers.ensures (c.in-ok-write-numbers-2.ensures ∙ ap (λ l. numbers ++ flat_map coded l) c.up-to.ensures.value) in
-    let few = ap length c.up-to.ensures.value in
-    record { value = e; short = body_short none numbers items (config_numbers k) rest _ c.write-numbers-2.new.out.ok.0 e (omega (arith, length_numbers (take k.cells k.first))) }
+    let numbers = vec_items c.write_numbers.new.out in
+    let items = vec_items c.write_numbers-2.new.out in
+    let e = body_is none numbers items (config_numbers k) rest c.new-body.ensures.items _ c.in_ok-write_numbers.ensures c.config_numbers.ensures (c.in_ok-write_numbers-2.ensures ∙ ap (λ l. numbers ++ flat_map coded l) c.up_to.ensures.value) in
+    let few = ap length c.up_to.ensures.value in
+    record { value = e; short = body_short none numbers items (config_numbers k) rest _ c.write_numbers-2.new.out.ok.0 e (omega (arith, length_numbers (take k.cells k.first))) }

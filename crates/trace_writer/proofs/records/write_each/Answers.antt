@@ -4,7 +4,7 @@ use Rattle.trace_writer.proofs.records.write_each.Goals as goal
 
 pub loop-item-preserved : goal.loop-item-preserved
 loop-item-preserved g c =
-    each_more g.T.ToRecord.written (vec_items c.args.out.now) (vec_items c.loop-item.out) c.args.items.now c.loop-item.item-index c.loop-item.invariant (vec_items c.write.new.out) c.item-item.result c.loop-item-test.true (c.in-ok-write.ensures ∙ ap (λ x. vec_items c.loop-item.out ++ g.T.ToRecord.written x) c.item-item.is)
+    each_more g.T.ToRecord.written (vec_items c.args.out.now) (vec_items c.loop-item.out) c.args.items.now c.loop-item.item-index c.loop-item.invariant (vec_items c.write.new.out) c.item-item.result c.loop-item-test.true (c.in_ok-write.ensures ∙ ap (λ x. vec_items c.loop-item.out ++ g.T.ToRecord.written x) c.item-item.is)
 
 pub returns : goal.returns
 returns g c =

@@ -5,5 +5,5 @@ use Rattle.trace_writer.proofs.traces.write_trace.Goals as goal
 
 pub returns : goal.returns
 returns c =
-    three_pieces (vec_items c.new-out.result) _ _ (vec_items c.write-each-2.new.out) _ _ _ c.in-ok-write.ensures c.in-ok-write-each.ensures c.in-ok-write-each-2.ensures
+    three_pieces (vec_items c.new-out.result) _ _ (vec_items c.write_each-2.new.out) _ _ _ c.in_ok-write.ensures c.in_ok-write_each.ensures c.in_ok-write_each-2.ensures
     ∙ ap (λ l. l ++ trace_of c.args.config.now c.args.arrivals.now c.args.sps.now) c.new-out.ensures.items

@@ -9,7 +9,7 @@ returns-then-config-eq1 g c =
     let mode = c.args.config.now.mode in
     let slot = c.args.slot in
     let both =
-    ap (λ x. x ∷ c.second_bit.result ∷ []) c.first-bit.ensures ∙ ap (λ x. first_bit mode slot ∷ x ∷ []) c.second_bit.ensures
+    ap (λ x. x ∷ c.second_bit.result ∷ []) c.first_bit.ensures ∙ ap (λ x. first_bit mode slot ∷ x ∷ []) c.second_bit.ensures
     ∙ sym (cond-true (eqb mode 1) (first_bit mode slot ∷ second_bit slot ∷ []) (first_bit mode slot ∷ []) (eq-eqb mode 1 c.if-config-eq1.true))
     in
-    gains_both g.S.BitSink.taken g.S.BitSink.room g.S.BitSink.took _ _ _ _ _ _ c.put-bit.ensures c.put-bit-then-config-eq1.ensures both
+    gains_both g.S.BitSink.taken g.S.BitSink.room g.S.BitSink.took _ _ _ _ _ _ c.put_bit.ensures c.put_bit-then-config-eq1.ensures both

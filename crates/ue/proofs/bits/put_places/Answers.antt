@@ -17,9 +17,9 @@ loop-slot-preserved g c =
     let more : n - i ≡ (n - (i + 1)) + 1 = omega (arith, c.loop-slot-test.true) in
     let parts = ap (λ k. w * k) more ∙ mul-add w (n - (i + 1)) 1 in
     let wide = length_place_bits c.args.config.now.mode (get_or c.args.slots.now i nack) in (
-      gains_both g.S.BitSink.taken g.S.BitSink.room g.S.BitSink.took _ _ _ _ _ _ c.loop-slot.invariant.0 c.put-place.ensures
+      gains_both g.S.BitSink.taken g.S.BitSink.room g.S.BitSink.took _ _ _ _ _ _ c.loop-slot.invariant.0 c.put_place.ensures
           (all_of_more f c.args.slots.now i _ c.loop-slot-test.true),
-      omega (arith, c.loop-slot.invariant.1, c.put-place.ensures.left, parts, wide),
+      omega (arith, c.loop-slot.invariant.1, c.put_place.ensures.left, parts, wide),
     )
 
 pub returns : goal.returns

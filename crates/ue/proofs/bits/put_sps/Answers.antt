@@ -7,9 +7,9 @@ use Rattle.ue.proofs.bits.put_sps.Goals as goal
 
 pub loop-s-preserved : goal.loop-s-preserved
 loop-s-preserved g c = (
-  gains_both g.S.BitSink.taken g.S.BitSink.room g.S.BitSink.took _ _ _ _ _ _ c.loop-s.invariant.0 c.put-bit.ensures
+  gains_both g.S.BitSink.taken g.S.BitSink.room g.S.BitSink.took _ _ _ _ _ _ c.loop-s.invariant.0 c.put_bit.ensures
       (sym (map_more sps_bit c.args.sps.now c.loop-s.s-index _ c.loop-s-test.true)),
-  omega (arith, c.loop-s.invariant.1, c.put-bit.ensures.left),
+  omega (arith, c.loop-s.invariant.1, c.put_bit.ensures.left),
 )
 
 pub returns : goal.returns

@@ -4,6 +4,6 @@ use Rattle.ue.proofs.checks.slots_to.Goals as goal
 
 pub returns : goal.returns
 returns c = record {
-  is = c.slots-at.ensures;
-  small = omega (arith, slots_at_le c.args.s.now.placer c.args.end c.requires.1 c.requires.0, c.slots-at.ensures);
+  is = c.slots_at.ensures;
+  small = omega (arith, slots_at_le c.args.s.now.placer c.args.end c.requires.1 c.requires.0, c.slots_at.ensures);
 }

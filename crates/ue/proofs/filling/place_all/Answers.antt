@@ -6,8 +6,8 @@ use Rattle.ue.proofs.filling.place_all.Goals as goal
 
 pub loop-a-preserved : goal.loop-a-preserved
 loop-a-preserved c =
-    placed_more c.args.config.now c.loop-a.placer c.place-one.new.placer c.args.arrivals.now c.loop-a.a-index c.loop-a.slots c.place-one.new.slots _ _
-    c.loop-a-test.true c.place-one.ensures.placer c.place-one.ensures.slots c.loop-a.invariant
+    placed_more c.args.config.now c.loop-a.placer c.place_one.new.placer c.args.arrivals.now c.loop-a.a-index c.loop-a.slots c.place_one.new.slots _ _
+    c.loop-a-test.true c.place_one.ensures.placer c.place_one.ensures.slots c.loop-a.invariant
 
 pub returns : goal.returns
 returns c =

@@ -9,19 +9,19 @@ use Rattle.ue.proofs.Gaining.{gains_both}
 use Rattle.ue.proofs.Reporting.{slots_written, places_read, bits_long, room_enough}
 use Rattle.ue.proofs.reports.write_report.Goals as goal
 
-pub put-sps-requires : goal.put-sps-requires
-put-sps-requires g c =
+pub put_sps-requires : goal.put_sps-requires
+put_sps-requires g c =
     let q = c.args.config.now in
-    let written = c.place-all.ensures ∙ ap (placed_by q (fresh (span q)) c.args.arrivals.now) c.fill-nack.ensures ∙ slots_written q _ _ _ _ _ c.requires.judged c.requires.few in
-    omega (arith, c.put-places.ensures.left, bits_long q _ _ _ _ _ c.requires.judged c.requires.few _ written, room_enough q _ _ _ _ _ c.requires.judged c.requires.few)
+    let written = c.place_all.ensures ∙ ap (placed_by q (fresh (span q)) c.args.arrivals.now) c.fill_nack.ensures ∙ slots_written q _ _ _ _ _ c.requires.judged c.requires.few in
+    omega (arith, c.put_places.ensures.left, bits_long q _ _ _ _ _ c.requires.judged c.requires.few _ written, room_enough q _ _ _ _ _ c.requires.judged c.requires.few)
 
 pub returns : goal.returns
 returns g c =
     let q = c.args.config.now in
-    let written = c.place-all.ensures ∙ ap (placed_by q (fresh (span q)) c.args.arrivals.now) c.fill-nack.ensures ∙ slots_written q _ _ _ _ _ c.requires.judged c.requires.few in
+    let written = c.place_all.ensures ∙ ap (placed_by q (fresh (span q)) c.args.arrivals.now) c.fill_nack.ensures ∙ slots_written q _ _ _ _ _ c.requires.judged c.requires.few in
     record {
       slots = written;
       gains =
-          gains_both g.S.BitSink.taken g.S.BitSink.room g.S.BitSink.took _ _ _ _ _ _ c.put-places.ensures c.put-sps.ensures
+          gains_both g.S.BitSink.taken g.S.BitSink.room g.S.BitSink.took _ _ _ _ _ _ c.put_places.ensures c.put_sps.ensures
           (ap (λ l. all_of (place_bits q.mode) l ++ map sps_bit c.args.sps.now) (places_read q _ _ _ _ _ c.requires.judged c.requires.few _ written));
     }

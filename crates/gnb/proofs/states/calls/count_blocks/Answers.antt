@@ -7,7 +7,7 @@ use Rattle.gnb.proofs.states.calls.count_blocks.Goals as goal
 
 pub loop-a-preserved : goal.loop-a-preserved
 loop-a-preserved c = (
-  blocks_more c.loop-a.blocks c.answered-blocks-blocks.result _ c.args.grants.now c.loop-a.a-index record { cell = 0; format = 0; blocks = 0 } c.loop-a-test.true c.answered-blocks-blocks.ensures c.loop-a.invariant.0,
+  blocks_more c.loop-a.blocks c.answered_blocks-blocks.result _ c.args.grants.now c.loop-a.a-index record { cell = 0; format = 0; blocks = 0 } c.loop-a-test.true c.answered_blocks-blocks.ensures c.loop-a.invariant.0,
   grind (arith, nat_tests),
 )
 

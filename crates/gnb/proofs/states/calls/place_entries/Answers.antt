@@ -14,9 +14,9 @@ loop-a-preserved c =
     let k = c.loop-a.k in
     let small : k < 4294967295 = omega arith in (
       omega arith,
-      placer_on span some k small c.loop-a.placer c.loop-a.invariant.1 _ c.counter-of.ensures _ (length c.loop-a.table) (omega arith) c.place.ensures.placer,
-      written_on span some k small c.loop-a.placer c.loop-a.invariant.1 _ c.counter-of.ensures c.args.config.now c.args.occasion _ c.args.grants.now c.loop-a.a-index
-          record { cell = 0; format = 0; blocks = 0 } c.loop-a.table _ _ _ c.loop-a-test.true c.entry-of.ensures c.place.ensures.slots c.loop-a.invariant.2,
+      placer_on span some k small c.loop-a.placer c.loop-a.invariant.1 _ c.counter_of.ensures _ (length c.loop-a.table) (omega arith) c.place.ensures.placer,
+      written_on span some k small c.loop-a.placer c.loop-a.invariant.1 _ c.counter_of.ensures c.args.config.now c.args.occasion _ c.args.grants.now c.loop-a.a-index
+          record { cell = 0; format = 0; blocks = 0 } c.loop-a.table _ _ _ c.loop-a-test.true c.entry_of.ensures c.place.ensures.slots c.loop-a.invariant.2,
     )
 
 pub returns : goal.returns

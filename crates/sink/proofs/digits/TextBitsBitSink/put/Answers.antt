@@ -16,6 +16,6 @@ returns c =
       answer = search rules;
       list = search (rules, take_more_set, map_push);
       left = simp length-set (omega arith);
-      on = λ first bits t. laid_push _ _ _ xs _ _ s.used _ (map digit bits) _ (digit b) t refl (ap (set xs s.used) c.digit-of.ensures) (ap (map digit) (gained_room n bits b h) ∙ map_push digit bits b);
+      on = λ first bits t. laid_push _ _ _ xs _ _ s.used _ (map digit bits) _ (digit b) t refl (ap (set xs s.used) c.digit_of.ensures) (ap (map digit) (gained_room n bits b h) ∙ map_push digit bits b);
       kept = λ e. absurd (omega arith);
     }

@@ -8,7 +8,7 @@ returns g c =
     let b = c.args.bit in
     let below = g.S.BitSink.room s.below in
     let n = min s.left below in
-    let accepted : 0 < below = ok_room below c.in-ok-put.field-0 c.in-ok-put.ensures.answer in
+    let accepted : 0 < below = ok_room below c.in_ok-put.field-0 c.in_ok-put.ensures.answer in
     let h : 0 < n = omega arith in
     record {
       answer = search rules;
@@ -23,8 +23,8 @@ returns g c =
       kept = λ e. absurd (omega arith);
     }
 
-pub returns-in-err-put : goal.returns-in-err-put
-returns-in-err-put g c =
-    let none = err_room (g.S.BitSink.room c.args.self.now.below) c.in-err-put.field-0.0 c.in-err-put.ensures.answer in
+pub returns-in_err-put : goal.returns-in_err-put
+returns-in_err-put g c =
+    let none = err_room (g.S.BitSink.room c.args.self.now.below) c.in_err-put.field-0.0 c.in_err-put.ensures.answer in
     let kept = c.put.ensures.kept none in
     search rules

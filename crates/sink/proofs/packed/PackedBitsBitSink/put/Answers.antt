@@ -15,12 +15,12 @@ returns c =
     let xs = bits_of s.bytes.now in
     let n = capacity (length s.bytes.now) - i in
     let h : 0 < n = omega (arith, c.free.ensures) in
-    let e = c.set-bit.ensures.bits in
+    let e = c.set_bit.ensures.bits in
     let l = length_bits s.bytes.now in
     record {
       answer = search rules;
       list = ap (take (i + 1)) e ∙ take_more_set xs i b (omega arith) ∙ sym (gained_room n (take i xs) b h);
-      left = omega (arith, c.set-bit.auto.bytes);
+      left = omega (arith, c.set_bit.auto.bytes);
       on = λ first bits t. laid_push _ _ _ xs _ _ i _ bits _ b t refl e (gained_room n bits b h);
       kept = λ z. absurd (omega arith);
     }
