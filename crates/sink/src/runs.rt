@@ -14,12 +14,12 @@ use harq::Refusal;
 
 // Puts all the bits, or refuses and changes nothing where the room is too small.
 pub fn put_all<S: BitSink>(bits: &[bool], sink: &mut S) -> Result<usize, Refusal>
-    ensures answer { result ≡ all_answer (room sink.old) bits.now }
-    ensures list { taken sink.new ≡ all_gained (room sink.old) (taken sink.old) bits.now }
-    ensures left { room sink.new ≡ room_after (room sink.old) bits.now }
-    ensures took { took sink.old (accepted (room sink.old) bits.now) sink.new }
-    ensures on { (first : S) (more : List Bool) → took first more sink.old → took first (all_gained (room sink.old) more bits.now) sink.new }
-    ensures kept { room sink.old < length bits.now → sink.new ≡ sink.old }
+    ensures answer { result ≡ all_answer (S.room sink.old) bits.now }
+    ensures list { S.taken sink.new ≡ all_gained (S.room sink.old) (S.taken sink.old) bits.now }
+    ensures left { S.room sink.new ≡ room_after (S.room sink.old) bits.now }
+    ensures took { S.took sink.old (accepted (S.room sink.old) bits.now) sink.new }
+    ensures on { (first : S) (more : List Bool) → S.took first more sink.old → S.took first (all_gained (S.room sink.old) more bits.now) sink.new }
+    ensures kept { S.room sink.old < length bits.now → sink.new ≡ sink.old }
 {
     if S::room_left(sink) < bits.len() {
         return Err(Refusal::Room);
@@ -32,11 +32,11 @@ pub fn put_all<S: BitSink>(bits: &[bool], sink: &mut S) -> Result<usize, Refusal
 
 // Puts all the bits, each flipped, or nothing.
 fn put_inverted<S: BitSink>(bits: &[bool], sink: &mut S) -> Result<usize, Refusal>
-    ensures answer { result ≡ all_answer (room sink.old) bits.now }
-    ensures list { taken sink.new ≡ all_gained (room sink.old) (taken sink.old) (map not bits.now) }
-    ensures left { room sink.new ≡ room_after (room sink.old) bits.now }
-    ensures took { took sink.old (accepted (room sink.old) (map not bits.now)) sink.new }
-    ensures kept { room sink.old < length bits.now → sink.new ≡ sink.old }
+    ensures answer { result ≡ all_answer (S.room sink.old) bits.now }
+    ensures list { S.taken sink.new ≡ all_gained (S.room sink.old) (S.taken sink.old) (map not bits.now) }
+    ensures left { S.room sink.new ≡ room_after (S.room sink.old) bits.now }
+    ensures took { S.took sink.old (accepted (S.room sink.old) (map not bits.now)) sink.new }
+    ensures kept { S.room sink.old < length bits.now → sink.new ≡ sink.old }
 {
     let mut inverter = Inverter::new(sink);
     put_all(bits, &mut inverter)

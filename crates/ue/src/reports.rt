@@ -23,10 +23,10 @@ fn write_report<S: BitSink>(
     count: usize,
     sink: &mut S,
 )
-    requires judged { judged config.now arrivals.now sps.now (length slots.old) (room sink.old) ≡ Ok count }
+    requires judged { judged config.now arrivals.now sps.now (length slots.old) (S.room sink.old) ≡ Ok count }
     requires few { length arrivals.now ≤ 512 }
     ensures slots { slots.new ≡ held config.now arrivals.now ++ drop count slots.old }
-    ensures gains { Gains taken room took sink.old (report_bits config.now arrivals.now sps.now) sink.new }
+    ensures gains { Gains taken room S.took sink.old (report_bits config.now arrivals.now sps.now) sink.new }
 {
     fill_nack(slots, count);
     place_all(config, arrivals, slots);
@@ -42,10 +42,10 @@ pub fn report_located<S: BitSink>(
     slots: &mut [Slot],
     sink: &mut S,
 ) -> Result<usize, Decline>
-    ensures answer { result ≡ report_answer config.now arrivals.now sps.now (length slots.old) (room sink.old) }
+    ensures answer { result ≡ report_answer config.now arrivals.now sps.now (length slots.old) (S.room sink.old) }
     ensures slots { slots.new ≡ slots_by config.now arrivals.now slots.old result }
-    ensures gains { Gains taken room took sink.old (gained_by config.now arrivals.now sps.now result) sink.new }
-    ensures took { took sink.old (gained_by config.now arrivals.now sps.now result) sink.new }
+    ensures gains { Gains taken room S.took sink.old (gained_by config.now arrivals.now sps.now result) sink.new }
+    ensures took { S.took sink.old (gained_by config.now arrivals.now sps.now result) sink.new }
     ensures kept { is_ok result ≡ false → sink.new ≡ sink.old }
 {
     let count = judge(config, arrivals, sps, slots.len(), S::room_left(sink))?;
@@ -61,12 +61,12 @@ pub fn report<S: BitSink>(
     slots: &mut [Slot],
     sink: &mut S,
 ) -> Result<usize, Refusal>
-    ensures answer { result ≡ refusal_in (report_answer config.now arrivals.now sps.now (length slots.old) (room sink.old)) }
+    ensures answer { result ≡ refusal_in (report_answer config.now arrivals.now sps.now (length slots.old) (S.room sink.old)) }
     ensures slots { slots.new ≡ slots_by config.now arrivals.now slots.old result }
-    ensures gains { Gains taken room took sink.old (gained_by config.now arrivals.now sps.now result) sink.new }
-    ensures took { took sink.old (gained_by config.now arrivals.now sps.now result) sink.new }
+    ensures gains { Gains taken room S.took sink.old (gained_by config.now arrivals.now sps.now result) sink.new }
+    ensures took { S.took sink.old (gained_by config.now arrivals.now sps.now result) sink.new }
     ensures kept { is_ok result ≡ false → sink.new ≡ sink.old }
-    ensures clause { OnOk result (ReportFor config.now arrivals.now sps.now (drop (length (taken sink.old)) (taken sink.new))) }
+    ensures clause { OnOk result (ReportFor config.now arrivals.now sps.now (drop (length (S.taken sink.old)) (S.taken sink.new))) }
 {
     match report_located(config, arrivals, sps, slots, sink) {
         Ok(length) => Ok(length),

@@ -20,9 +20,9 @@ fn report_inverted<S: BitSink>(
     slots: &mut [Slot],
     sink: &mut S,
 ) -> Result<usize, Refusal>
-    ensures answer { result ≡ refusal_in (report_answer config.now arrivals.now sps.now (length slots.old) (room sink.old)) }
+    ensures answer { result ≡ refusal_in (report_answer config.now arrivals.now sps.now (length slots.old) (S.room sink.old)) }
     ensures slots { slots.new ≡ slots_by config.now arrivals.now slots.old result }
-    ensures took { took sink.old (on_air (gained_by config.now arrivals.now sps.now result)) sink.new }
+    ensures took { S.took sink.old (on_air (gained_by config.now arrivals.now sps.now result)) sink.new }
 {
     let mut inverter = Inverter::new(sink);
     report(config, arrivals, sps, slots, &mut inverter)
