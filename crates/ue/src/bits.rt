@@ -14,7 +14,7 @@ use sink::BitSink;
 // One bit, for which there is room.
 fn put_bit<S: BitSink>(bit: bool, sink: &mut S)
     requires { 1 ≤ S.room sink.old }
-    ensures { Gains taken room S.took sink.old (bit ∷ []) sink.new }
+    ensures { Gains S.taken S.room S.took sink.old (bit ∷ []) sink.new }
 {
     let _ = sink.put(bit);
 }
@@ -22,7 +22,7 @@ fn put_bit<S: BitSink>(bit: bool, sink: &mut S)
 // The bits of a place.
 fn put_place<S: BitSink>(config: &Config, slot: Slot, sink: &mut S)
     requires { bits_per_place config.now ≤ S.room sink.old }
-    ensures { Gains taken room S.took sink.old (place_bits config.now.mode slot) sink.new }
+    ensures { Gains S.taken S.room S.took sink.old (place_bits config.now.mode slot) sink.new }
 {
     put_bit(slot.first_bit(config.mode), sink);
     if config.mode == 1 {
@@ -33,7 +33,7 @@ fn put_place<S: BitSink>(config: &Config, slot: Slot, sink: &mut S)
 // The bits of each place.
 pub(crate) fn put_places<S: BitSink>(config: &Config, slots: &[Slot], sink: &mut S)
     requires { bits_per_place config.now * length slots.now ≤ S.room sink.old }
-    ensures { Gains taken room S.took sink.old (all_of (place_bits config.now.mode) slots.now) sink.new }
+    ensures { Gains S.taken S.room S.took sink.old (all_of (place_bits config.now.mode) slots.now) sink.new }
 {
     for slot in slots {
         put_place(config, *slot, sink);
@@ -43,7 +43,7 @@ pub(crate) fn put_places<S: BitSink>(config: &Config, slots: &[Slot], sink: &mut
 // The bit of each SPS reception.
 pub(crate) fn put_sps<S: BitSink>(sps: &[SpsOutcome], sink: &mut S)
     requires { length sps.now ≤ S.room sink.old }
-    ensures { Gains taken room S.took sink.old (map sps_bit sps.now) sink.new }
+    ensures { Gains S.taken S.room S.took sink.old (map sps_bit sps.now) sink.new }
 {
     for s in sps {
         put_bit(s.outcome == 1, sink);

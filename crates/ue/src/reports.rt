@@ -26,7 +26,7 @@ fn write_report<S: BitSink>(
     requires judged { judged config.now arrivals.now sps.now (length slots.old) (S.room sink.old) ≡ Ok count }
     requires few { length arrivals.now ≤ 512 }
     ensures slots { slots.new ≡ held config.now arrivals.now ++ drop count slots.old }
-    ensures gains { Gains taken room S.took sink.old (report_bits config.now arrivals.now sps.now) sink.new }
+    ensures gains { Gains S.taken S.room S.took sink.old (report_bits config.now arrivals.now sps.now) sink.new }
 {
     fill_nack(slots, count);
     place_all(config, arrivals, slots);
@@ -44,7 +44,7 @@ pub fn report_located<S: BitSink>(
 ) -> Result<usize, Decline>
     ensures answer { result ≡ report_answer config.now arrivals.now sps.now (length slots.old) (S.room sink.old) }
     ensures slots { slots.new ≡ slots_by config.now arrivals.now slots.old result }
-    ensures gains { Gains taken room S.took sink.old (gained_by config.now arrivals.now sps.now result) sink.new }
+    ensures gains { Gains S.taken S.room S.took sink.old (gained_by config.now arrivals.now sps.now result) sink.new }
     ensures took { S.took sink.old (gained_by config.now arrivals.now sps.now result) sink.new }
     ensures kept { is_ok result ≡ false → sink.new ≡ sink.old }
 {
@@ -63,7 +63,7 @@ pub fn report<S: BitSink>(
 ) -> Result<usize, Refusal>
     ensures answer { result ≡ refusal_in (report_answer config.now arrivals.now sps.now (length slots.old) (S.room sink.old)) }
     ensures slots { slots.new ≡ slots_by config.now arrivals.now slots.old result }
-    ensures gains { Gains taken room S.took sink.old (gained_by config.now arrivals.now sps.now result) sink.new }
+    ensures gains { Gains S.taken S.room S.took sink.old (gained_by config.now arrivals.now sps.now result) sink.new }
     ensures took { S.took sink.old (gained_by config.now arrivals.now sps.now result) sink.new }
     ensures kept { is_ok result ≡ false → sink.new ≡ sink.old }
     ensures clause { OnOk result (ReportFor config.now arrivals.now sps.now (drop (length (S.taken sink.old)) (S.taken sink.new))) }
