@@ -13,5 +13,5 @@ pub loop-cell-preserved : goal.loop-cell-preserved
 loop-cell-preserved c =
     let n = c.in_ok-n in
     let w = n.ensures.within in
-    let e = fields_more c.args.bytes.now c.args.at c.loop-cell.after c.args.count c.loop-cell.-cell _ c.loop-cell-test.true n.ensures.value in
+    let e = fields_more c.args.bytes.now c.args.at c.loop-cell.after c.args.count c.loop-cell._cell _ c.loop-cell-test.true n.ensures.value in
     (omega arith, omega arith, c.loop-cell.invariant.2 ∙ e)
