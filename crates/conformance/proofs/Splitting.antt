@@ -1,10 +1,10 @@
 -- Where a mark first stands in a text: what `split_once` finds is what `split_at` says.
-use Rattle.std.proofs.Common.{◌≡◌, ℕ, zero, suc, ◌+◌, ◌<◌, ◌≤◌, Bool, true, false, cond, ◌&&◌, eqb, List, [], ◌∷◌, ◌++◌, length, take, drop, Some, None, Option, sym, refl, ap, ◌∙◌, arith, Bor, MatchOption}
+use Rattle.std.proofs.Common.{◌≡◌, ℕ, zero, suc, ◌+◌, ◌<◌, ◌≤◌, Bool, true, false, eqb, List, [], ◌∷◌, ◌++◌, length, take, drop, Some, None, Option, sym, refl, arith, Bor, MatchOption}
 use Rattle.std.specs.Str.Pattern.{FindsText, LacksTextAt}
 use Rattle.std.specs.Option.{option_map}
 use Rattle.std.proofs.lemmas.List.Prefix.{front_rest}
 use Rattle.std.proofs.lemmas.Bool.{eqb-true, eq-eqb, and_parts, and_from}
-use Rattle.conformance.specs.Vectors.{begins_with, one_before, split_at, both_texts}
+use Rattle.conformance.specs.Vectors.{begins_with, split_at, both_texts}
 
 begins_true : (mark text rest : List ℕ) → text ≡ mark ++ rest → begins_with mark text ≡ true
 begins_true [] text rest e = refl

@@ -1,5 +1,5 @@
 -- What comparing a line comes to. Assumes nothing.
-use Rattle.std.specs.Prelude.{ℕ, ◌+◌, Bool, true, false, cond, List, [], ◌++◌, Some, None, string_bytes, codes, decimal, Option}
+use Rattle.std.specs.Prelude.{ℕ, ◌+◌, Bool, true, false, cond, List, ◌++◌, Some, None, string_bytes, codes, decimal, Option}
 use Rattle.std.specs.Str.{bytes_eq}
 use Rattle.trace.specs.Answers.{line_of}
 use Rattle.conformance.specs.Hex.{written_bytes}

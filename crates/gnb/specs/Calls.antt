@@ -1,5 +1,5 @@
 -- Numbering calls: which are accepted, and what they leave. Assumes nothing.
-use Rattle.std.specs.Prelude.{ℕ, ◌+◌, ◌*◌, Bool, not, List, [], ◌∷◌, ◌++◌, length, take, drop, is_some, Some, None, Ok, Err, Option, Result, nat_le, nat_lt}
+use Rattle.std.specs.Prelude.{ℕ, ◌+◌, ◌*◌, not, List, [], ◌∷◌, ◌++◌, length, take, drop, is_some, Some, None, Ok, Err, Option, Result, nat_le, nat_lt}
 use Rattle.dai.specs.declared.Layout.{Layout}
 use Rattle.dai.specs.Fields.{coded}
 use Rattle.harq.specs.declared.configs.Config.{Config}

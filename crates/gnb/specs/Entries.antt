@@ -1,5 +1,5 @@
 -- Entries of the grant table, by number. Assumes nothing.
-use Rattle.std.specs.Prelude.{ℕ, ◌-◌, cond, ◌&&◌, List, [], ◌∷◌, length, drop, Some, None, Option, nat_le}
+use Rattle.std.specs.Prelude.{ℕ, ◌-◌, cond, ◌&&◌, List, [], ◌∷◌, drop, Some, None, Option, nat_le}
 use Rattle.gnb.specs.declared.grants.GrantEntry.{GrantEntry}
 
 -- the front of a list

@@ -1,5 +1,5 @@
 -- The assignments that a list of numbering calls sends. Assumes nothing.
-use Rattle.std.specs.Prelude.{◌≡◌, ℕ, ◌+◌, ◌*◌, ◌≤◌, Bool, cond, not, List, [], ◌∷◌, ◌++◌, map, length, take, drop, Some, None, Ok, Option, ◌==◌}
+use Rattle.std.specs.Prelude.{◌≡◌, ℕ, ◌+◌, ◌*◌, ◌≤◌, Bool, cond, not, List, [], ◌∷◌, ◌++◌, map, length, take, drop, Some, None, Ok, ◌==◌}
 use Rattle.std.specs.List.{AllByRecursion as All}
 use Rattle.dai.specs.Values.{value}
 use Rattle.harq.specs.declared.configs.Config.{Config}

@@ -1,11 +1,11 @@
 -- The placer follows the definition of placing as long as its turns are below the largest number. Assumes nothing.
-use Rattle.std.proofs.Common.{◌≡◌, ℕ, suc, ◌+◌, ◌-◌, ◌*◌, ◌/◌, ◌<◌, ◌≤◌, min, Bool, true, false, cond, ◌||◌, eqb, ltb, leb, List, [], ◌∷◌, map, length, fold, sym, refl, ap, ◌∙◌, subst, mul-le-mul, div-le_self, arith}
+use Rattle.std.proofs.Common.{◌≡◌, ℕ, ◌+◌, ◌-◌, ◌*◌, ◌/◌, ◌<◌, ◌≤◌, min, Bool, true, false, cond, ◌||◌, eqb, ltb, leb, List, [], ◌∷◌, length, fold, sym, refl, ap, ◌∙◌, subst, mul-le-mul, div-le_self, arith}
 use Rattle.std.proofs.lemmas.Bool.{cond-false}
 use Rattle.std.proofs.lemmas.Bool.Decides.{nat_tests}
 use Rattle.harq.specs.declared.placing.Placer.{Placer}
 use Rattle.dai.specs.Values.{value}
 use Rattle.harq.specs.Words.{last_or}
-use Rattle.harq.specs.Placing.{turns_after, place_of, count_at, count_after}
+use Rattle.harq.specs.Placing.{turns_after, place_of, count_after}
 use Rattle.harq.specs.Placers.{fresh, placer_after, turns_of, advanced, place_at, slots_at}
 use Rattle.harq.proofs.Turns.{Stands, stands, turn_of, turn_kept}
 use Rattle.harq.proofs.Standing.{stands_none}

@@ -1,5 +1,5 @@
 -- The configuration: its limits, and what follows from it. Assumes nothing.
-use Rattle.std.specs.Prelude.{ℕ, Bool, false, cond, ◌&&◌, ◌||◌, leb, List, take, Some, None, Option, ◌==◌, nat_le, nat_lt, slice_index}
+use Rattle.std.specs.Prelude.{ℕ, Bool, false, cond, ◌&&◌, ◌||◌, leb, take, Some, None, Option, ◌==◌, nat_le, nat_lt, slice_index}
 use Rattle.dai.specs.declared.Layout.{Layout}
 use Rattle.dai.specs.declared.Layout.TheVariants.{One, Two, Four}
 use Rattle.dai.specs.Fields.{has_total, reading}

@@ -10,7 +10,7 @@ use Rattle.gnb.specs.declared.grants.Grant.{Grant}
 use Rattle.gnb.specs.Calls.{call_answer, batch_after, expected}
 use Rattle.gnb.specs.Opening.{opening_refused, fresh_batch}
 use Rattle.gnb.specs.Sending.{Call, Assignment, sent}
-use Rattle.tables.specs.Setups.{cells, one_cell, two_cells, with_occasions, with_width, in_mode, counted_from, largest, by_1_0, by_1_1, by_1_2}
+use Rattle.tables.specs.Setups.{cells, one_cell, two_cells, with_width, in_mode, counted_from, largest, by_1_0, by_1_1, by_1_2}
 use Rattle.tables.specs.Rows.{Row, line, Holds}
 
 -- an SPS entry, and a row of them

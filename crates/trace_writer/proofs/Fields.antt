@@ -1,18 +1,14 @@
 -- Numbers and bodies where they were written. Assumes nothing.
-use Rattle.std.proofs.Common.{◌≡◌, ℕ, zero, suc, ◌+◌, ◌-◌, ◌^◌, ◌<◌, ◌≤◌, true, false, eqb, ltb, List, [], ◌∷◌, ◌++◌, length, get_or, take, drop, replicate, Ok, Err, Result, sym, refl, ap, ◌∙◌, append_assoc, append-nil, add-zero, add_assoc, arith, length-append, length-drop}
+use Rattle.std.proofs.Common.{◌≡◌, ℕ, zero, suc, ◌+◌, ◌-◌, ◌^◌, ◌<◌, ◌≤◌, ltb, List, [], ◌∷◌, ◌++◌, length, drop, replicate, Ok, Result, sym, refl, ap, ◌∙◌, append_assoc, add-zero, add_assoc, arith, length-append, length-drop}
 use Rattle.std.specs.List.{flat_map}
-use Rattle.std.proofs.lemmas.List.{drop-drop, drop_at, get_or-drop}
-use Rattle.std.proofs.lemmas.Bool.{cond-true, lt-ltb, eq-eqb}
-use Rattle.ue.specs.declared.arrivals.Arrival.{Arrival}
-use Rattle.ue.specs.declared.arrivals.SpsOutcome.{SpsOutcome}
-use Rattle.harq.specs.declared.configs.Config.{Config}
+use Rattle.std.proofs.lemmas.List.{drop-drop, drop_at}
+use Rattle.std.proofs.lemmas.Bool.{cond-true, lt-ltb}
 use Rattle.trace.specs.declared.faults.Fault.{Fault}
 use Rattle.trace.specs.Faults.{after}
 use Rattle.trace.specs.Numbers.{number_at, limited, groups}
-use Rattle.trace.specs.Records.{Entry, configuration, assignment, sps, field_at, fields_at, ending, configuration_at, assignment_at, sps_at}
+use Rattle.trace.specs.Records.{field_at, fields_at}
 use Rattle.trace.specs.Batches.{or_zero, numbers_from}
 use Rattle.trace_writer.specs.Coding.{coded}
-use Rattle.trace_writer.specs.Writing.{config_body, arrival_body, sps_body, arrival_numbers, config_numbers, sps_numbers}
 use Rattle.trace_writer.specs.Laws.{Small}
 use Rattle.trace_writer.proofs.RoundTrip.{number_coded}
 use Rattle.trace_writer.proofs.Appending.{length_coded}

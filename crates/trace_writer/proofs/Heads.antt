@@ -1,11 +1,10 @@
 -- A record where it was written. Assumes nothing.
-use Rattle.std.proofs.Common.{◌≡◌, ℕ, ◌+◌, ◌-◌, ◌^◌, ◌<◌, ◌≤◌, true, false, cond, ◌&&◌, ltb, leb, List, [], ◌∷◌, ◌++◌, length, take, drop, Some, Ok, Err, sym, refl, ap, ◌∙◌, append_assoc, arith, length-append}
+use Rattle.std.proofs.Common.{◌≡◌, ℕ, ◌+◌, ◌-◌, ◌^◌, ◌<◌, ◌≤◌, true, false, ◌&&◌, ltb, leb, List, ◌++◌, length, take, drop, Some, Ok, refl, ap, ◌∙◌, append_assoc, arith, length-append}
 use Rattle.std.proofs.lemmas.List.{drop-take, take_at}
 use Rattle.std.proofs.lemmas.Bool.{cond-true, cond-false, le-leb}
 use Rattle.std.proofs.lemmas.Bool.Decides.{nat_tests}
-use Rattle.trace.specs.declared.faults.Layer.TheVariants as layer
-use Rattle.trace.specs.Faults.{broken_at, after}
-use Rattle.trace.specs.Records.{Entry, field_at, body_at, may_stand, head_at, record_at}
+use Rattle.trace.specs.Faults.{after}
+use Rattle.trace.specs.Records.{Entry, body_at, may_stand, head_at, record_at}
 use Rattle.trace_writer.specs.Coding.{coded}
 use Rattle.trace_writer.specs.Writing.{record_of}
 use Rattle.trace_writer.proofs.Appending.{length_coded}

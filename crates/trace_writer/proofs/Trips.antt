@@ -1,5 +1,5 @@
 -- A whole trace, written and read back. Assumes nothing.
-use Rattle.std.proofs.Common.{◌≡◌, ℕ, zero, suc, ◌+◌, ◌-◌, ◌^◌, ◌<◌, ◌≤◌, min, true, false, cond, ◌&&◌, ltb, leb, List, [], ◌∷◌, ◌++◌, map, length, take, drop, replicate, Some, None, Ok, Err, Option, Result, sym, refl, ap, ◌∙◌, append_assoc, append-nil, add-zero, add_assoc, zero-add, arith, length-append, length-take}
+use Rattle.std.proofs.Common.{◌≡◌, ℕ, zero, suc, ◌+◌, ◌-◌, ◌^◌, ◌<◌, ◌≤◌, true, ◌&&◌, ltb, leb, List, [], ◌∷◌, ◌++◌, length, take, drop, replicate, Some, None, Ok, Option, sym, refl, ap, ◌∙◌, append_assoc, add-zero, zero-add, arith, length-append, length-take}
 use Rattle.std.specs.List.{flat_map, AllByRecursion as All}
 use Rattle.std.proofs.ByRecursion.{All-take}
 use Rattle.std.proofs.lemmas.List.{take-append-drop, drop_at}
@@ -8,14 +8,13 @@ use Rattle.std.proofs.lemmas.Bool.Decides.{nat_tests}
 use Rattle.harq.specs.declared.configs.Config.{Config}
 use Rattle.ue.specs.declared.arrivals.Arrival.{Arrival}
 use Rattle.ue.specs.declared.arrivals.SpsOutcome.{SpsOutcome}
-use Rattle.trace.specs.declared.faults.Fault.{Fault}
 use Rattle.trace.specs.Faults.{after}
 use Rattle.trace.specs.Records.{Entry, configuration, assignment, sps, may_stand, record_at}
-use Rattle.trace.specs.Files.{length_checked, and_then, entries_from, entries}
-use Rattle.trace.specs.Batches.{numbers_from, outcomes_of, config_of, arrival_of, sps_of, if_some, chosen, firsts, seconds, Contents, contents_of, contents}
+use Rattle.trace.specs.Files.{and_then, entries_from, entries}
+use Rattle.trace.specs.Batches.{numbers_from, outcomes_of, config_of, arrival_of, sps_of, if_some, chosen, firsts, seconds, Contents, contents_of}
 use Rattle.trace_writer.specs.Coding.{coded}
-use Rattle.trace_writer.specs.Writing.{record_of, config_numbers, arrival_numbers, sps_numbers, config_body, arrival_body, sps_body, config_record, arrival_record, sps_record, trace_of}
-use Rattle.trace_writer.specs.Laws.{Small, Padded, ConfigSayable, ArrivalSayable, SpsSayable, starts, batch_of, ReadsWritten}
+use Rattle.trace_writer.specs.Writing.{record_of, config_numbers, arrival_numbers, config_body, arrival_body, sps_body, config_record, arrival_record, sps_record, trace_of}
+use Rattle.trace_writer.specs.Laws.{Padded, ConfigSayable, ArrivalSayable, SpsSayable, starts, batch_of, ReadsWritten}
 use Rattle.trace_writer.proofs.Appending.{length_coded}
 use Rattle.trace_writer.proofs.Fields.{past, room, numbers_coded}
 use Rattle.trace_writer.proofs.Bodies.{end_of, sps_read, assignment_read, configuration_read}

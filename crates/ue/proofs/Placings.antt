@@ -15,7 +15,7 @@ use Rattle.ue.specs.declared.arrivals.Arrival.{Arrival}
 use Rattle.ue.specs.declared.slots.Slot.{Slot}
 use Rattle.ue.specs.Slots.{slot_of, nack}
 use Rattle.ue.specs.Batches.{counter, counting, counted, counters, slots_in}
-use Rattle.ue.specs.Fillings.{filled, placer_behind, slots_behind, placed_by}
+use Rattle.ue.specs.Fillings.{filled, placed_by}
 use Rattle.ue.specs.Reports.{places_of, held}
 
 module _ (g : Config) where

@@ -1,5 +1,5 @@
 -- A report that is not declined is written whole. Assumes nothing.
-use Rattle.std.proofs.Common.{◌≡◌, ℕ, ◌+◌, ◌-◌, ◌*◌, ◌≤◌, Bool, List, [], ◌++◌, length, take, drop, Ok, Err, Result, sym, refl, ap, ◌∙◌, subst, arith}
+use Rattle.std.proofs.Common.{◌≡◌, ℕ, ◌+◌, ◌-◌, ◌*◌, ◌≤◌, List, ◌++◌, length, take, drop, Ok, Err, Result, sym, refl, ap, ◌∙◌, arith}
 use Rattle.std.proofs.lemmas.List.{take_at}
 use Rattle.harq.specs.declared.configs.Config.{Config}
 use Rattle.harq.specs.Words.{all_of, onward}
@@ -10,7 +10,6 @@ use Rattle.ue.specs.declared.arrivals.SpsOutcome.{SpsOutcome}
 use Rattle.ue.specs.declared.declines.Decline.{Decline}
 use Rattle.ue.specs.declared.slots.Slot.{Slot}
 use Rattle.ue.specs.Slots.{place_bits}
-use Rattle.ue.specs.Batches.{slots_in}
 use Rattle.ue.specs.Checks.{judged, length_of}
 use Rattle.ue.specs.Fillings.{filled, placed_by}
 use Rattle.ue.specs.Reports.{held, report_bits, report_answer}

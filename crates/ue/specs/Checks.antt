@@ -9,7 +9,6 @@ use Rattle.harq.specs.SpsLists.{unfit_from}
 use Rattle.ue.specs.declared.arrivals.Arrival.{Arrival}
 use Rattle.ue.specs.declared.arrivals.SpsOutcome.{SpsOutcome}
 use Rattle.ue.specs.declared.declines.Decline.{Decline}
-use Rattle.ue.specs.declared.declines.Part.{Part}
 use Rattle.ue.specs.declared.declines.Part.TheVariants as part
 use Rattle.ue.specs.Batches.{dai_of, total, counting, brought, counted, total_at, slots_in}
 

@@ -1,5 +1,5 @@
 -- The UE's HARQ-ACK report for what arrived. Assumes nothing.
-use Rattle.std.specs.Prelude.{ℕ, Bool, List, [], ◌++◌, map, length, drop, Ok, Err, Option, Result, ◌==◌}
+use Rattle.std.specs.Prelude.{ℕ, Bool, List, [], ◌++◌, map, length, drop, Ok, Err, Result, ◌==◌}
 use Rattle.std.specs.Option.{unwrap_or}
 use Rattle.harq.specs.declared.configs.Config.{Config}
 use Rattle.harq.specs.declared.refusals.Refusal.{Refusal}

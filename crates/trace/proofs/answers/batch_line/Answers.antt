@@ -1,4 +1,4 @@
-use Rattle.std.proofs.Common.{◌≡◌, replicate, string_bytes, refl, ◌∙◌}
+use Rattle.std.proofs.Common.{replicate, refl, ◌∙◌}
 use Rattle.std.proofs.lemmas.Result.{IfOk-weaker}
 use Rattle.trace.specs.Batches.{held}
 use Rattle.trace.proofs.Answering.{line_shown}

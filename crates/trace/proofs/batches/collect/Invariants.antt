@@ -1,6 +1,6 @@
-use Rattle.std.proofs.Common.{◌≡◌, map, take, vec_items}
+use Rattle.std.proofs.Common.{map, take}
 use Rattle.trace.specs.Records.{entry_of}
-use Rattle.trace.specs.Batches.{firsts, seconds, chosen, Apart}
+use Rattle.trace.specs.Batches.{chosen, Apart}
 use Rattle.trace.proofs.batches.collect.Given as goal
 
 abbrev pub invariant-loop-record : goal.invariant-loop-record

@@ -1,6 +1,5 @@
 use Rattle.std.proofs.Common.{vec_items, refl}
 use Rattle.std.proofs.lemmas.Slice.{pushed}
-use Rattle.trace_writer.specs.Coding.{coded}
 use Rattle.trace_writer.proofs.Appending.{three_pieces}
 use Rattle.trace_writer.proofs.records.write_record.Goals as goal
 

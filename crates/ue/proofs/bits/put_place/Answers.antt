@@ -1,4 +1,4 @@
-use Rattle.std.proofs.Common.{◌≡◌, cond, eqb, [], ◌∷◌, sym, ap, ◌∙◌}
+use Rattle.std.proofs.Common.{eqb, [], ◌∷◌, sym, ap, ◌∙◌}
 use Rattle.std.proofs.lemmas.Bool.{eq-eqb, cond-true}
 use Rattle.ue.specs.Slots.{first_bit, second_bit}
 use Rattle.ue.proofs.Gaining.{gains_both}

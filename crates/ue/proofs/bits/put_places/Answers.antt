@@ -1,4 +1,4 @@
-use Rattle.std.proofs.Common.{◌≡◌, ◌+◌, ◌-◌, ◌*◌, length, get_or, take, sym, ap, ◌∙◌, subst, mul-add, arith}
+use Rattle.std.proofs.Common.{◌≡◌, ◌+◌, ◌-◌, ◌*◌, length, get_or, ap, ◌∙◌, subst, mul-add, arith}
 use Rattle.std.proofs.lemmas.List.{take_all}
 use Rattle.harq.specs.Words.{all_of}
 use Rattle.harq.specs.Configs.{bits_per_place}

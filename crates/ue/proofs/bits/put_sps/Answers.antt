@@ -1,4 +1,4 @@
-use Rattle.std.proofs.Common.{◌≡◌, map, take, sym, subst, arith}
+use Rattle.std.proofs.Common.{map, sym, subst, arith}
 use Rattle.std.proofs.lemmas.List.{take_all, map_more}
 use Rattle.sink.specs.Gains.{Gains}
 use Rattle.ue.specs.Reports.{sps_bit}

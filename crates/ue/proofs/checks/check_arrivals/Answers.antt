@@ -1,10 +1,7 @@
-use Rattle.std.proofs.Common.{◌≡◌, ◌≤◌, [], length, Ok, Result, sym, ap, ◌∙◌, subst}
+use Rattle.std.proofs.Common.{[], Ok, sym, ap, ◌∙◌, subst}
 use Rattle.std.proofs.lemmas.Result.{err_from_is_err_and}
-use Rattle.harq.specs.Words.{onward}
-use Rattle.ue.specs.declared.declines.Decline.{Decline}
-use Rattle.ue.specs.declared.walks.Walk.{Walk}
-use Rattle.ue.specs.Checks.{arrivals_judged, first_refused}
-use Rattle.ue.specs.Walks.{start, walk_from, slots_after}
+use Rattle.ue.specs.Checks.{first_refused}
+use Rattle.ue.specs.Walks.{start}
 use Rattle.ue.proofs.Walked.{Ends, walked_none, walk_ends, judged_by}
 use Rattle.ue.proofs.checks.check_arrivals.Goals as goal
 

@@ -1,4 +1,4 @@
-use Rattle.std.proofs.Common.{◌≡◌, [], ◌++◌, length, drop, sym, ap, ◌∙◌, rules}
+use Rattle.std.proofs.Common.{[], ◌++◌, length, drop, sym, ap, ◌∙◌, rules}
 use Rattle.ue.specs.Reports.{held}
 use Rattle.ue.proofs.Accepted.{judged_slots}
 use Rattle.ue.proofs.reports.report_located.Goals as goal

@@ -1,4 +1,4 @@
-use Rattle.std.proofs.Common.{◌≡◌, ◌++◌, map, sym, ap, ◌∙◌, arith}
+use Rattle.std.proofs.Common.{◌++◌, map, ap, ◌∙◌, arith}
 use Rattle.harq.specs.Configs.{span}
 use Rattle.harq.specs.Placers.{fresh}
 use Rattle.harq.specs.Words.{all_of}

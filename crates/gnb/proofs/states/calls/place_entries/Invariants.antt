@@ -1,4 +1,4 @@
-use Rattle.std.proofs.Common.{◌≡◌, ◌+◌, length, drop}
+use Rattle.std.proofs.Common.{◌≡◌, ◌+◌, drop}
 use Rattle.harq.specs.Placers.{placer_after}
 use Rattle.sink.specs.Written.{written}
 use Rattle.gnb.specs.Calls.{entries_of}
