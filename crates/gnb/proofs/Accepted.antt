@@ -1,6 +1,6 @@
 -- What is known of accepted calls and of their grants. Assumes nothing.
 use Rattle.std.proofs.Common.{◌≡◌, ℕ, ◌+◌, ◌<◌, ◌≤◌, Bool, true, false, cond, List, [], ◌∷◌, map, length, is_some, Some, None, Option, refl, arith}
-use Rattle.std.specs.List.{AllByRecursion as All}
+use Rattle.std.specs.List.{AllByRecursion}
 use Rattle.std.proofs.lemmas.Bool.{ltb-false, leb-false, not-false}
 use Rattle.harq.specs.declared.configs.Config.{Config}
 use Rattle.harq.specs.declared.refusals.Refusal.{Refusal}
@@ -61,7 +61,7 @@ pub granted_lower : (g : Config) (m low lowest : ℕ) (a : Grant) → low ≤ lo
 granted_lower g m low lowest a le h = record { below = h.below; above = omega (arith, h.above); counted = h.counted; laid = h.laid; sized = h.sized }
 
 -- each by itself
-pub each_granted : (g : Config) (m low lowest : ℕ) (gs : List Grant) → low ≤ lowest → AllGranted g m lowest gs → All (Granted g m low) gs
+pub each_granted : (g : Config) (m low lowest : ℕ) (gs : List Grant) → low ≤ lowest → AllGranted g m lowest gs → AllByRecursion (Granted g m low) gs
 each_granted g m low lowest [] le h = tt
 each_granted g m low lowest (a ∷ rest) le h =
     (granted_lower g m low lowest a le h.0, each_granted g m low (a.cell + 1) rest (omega (arith, h.0.above)) h.1)

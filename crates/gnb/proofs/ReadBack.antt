@@ -1,6 +1,6 @@
 -- The DAI fields of accepted grants are read back. Assumes nothing.
 use Rattle.std.proofs.Common.{◌≡◌, ℕ, ◌+◌, true, cond, List, [], ◌∷◌, length, is_some, Some, None, Option, refl, ap, ◌∙◌, arith}
-use Rattle.std.specs.List.{AllByRecursion as All}
+use Rattle.std.specs.List.{AllByRecursion}
 use Rattle.std.proofs.lemmas.Bool.Decides.{nat_tests}
 use Rattle.dai.specs.declared.Layout.{Layout}
 use Rattle.dai.specs.declared.Layout.TheVariants.{One, Two, Four}
@@ -32,7 +32,7 @@ read_back s k total (Some l) there spans =
     numbers_return l k total ∙ ap (λ n. Some (value n k, cond (has_total l) (Some (value n total)) None)) (spans l refl)
 
 pub call_read_back : (g : Config) (m lowest total n : ℕ) (gs : List Grant) → AllGranted g m lowest gs →
-    All (ReadsBack g total) (assignments g m total n gs)
+    AllByRecursion (ReadsBack g total) (assignments g m total n gs)
 call_read_back g m lowest total n [] all = tt
 call_read_back g m lowest total n (a ∷ gs) all = (
   read_back (span g) (n + 1) total (layout_of g a.format) all.0.laid (span_of_layout g a.format),

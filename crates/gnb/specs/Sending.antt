@@ -1,6 +1,6 @@
 -- The assignments that a list of numbering calls sends. Assumes nothing.
 use Rattle.std.specs.Prelude.{◌≡◌, ℕ, ◌+◌, ◌*◌, ◌≤◌, Bool, cond, not, List, [], ◌∷◌, ◌++◌, map, length, take, drop, Some, None, Ok, ◌==◌}
-use Rattle.std.specs.List.{AllByRecursion as All}
+use Rattle.std.specs.List.{AllByRecursion}
 use Rattle.dai.specs.Values.{value}
 use Rattle.harq.specs.declared.configs.Config.{Config}
 use Rattle.harq.specs.declared.sps.SpsEntry.{SpsEntry}
@@ -123,7 +123,7 @@ ReadsBack g total a =
 abbrev pub AllReadBack : Config → ℕ → List Call → Type 0
 AllReadBack g n [] = Unit {0}
 AllReadBack g n (c ∷ cs) =
-    All (ReadsBack g (n + length c.grants)) (assignments g c.occasion (n + length c.grants) n c.grants)
+    AllByRecursion (ReadsBack g (n + length c.grants)) (assignments g c.occasion (n + length c.grants) n c.grants)
     × AllReadBack g (n + length c.grants) cs
 
 abbrev pub FieldsReadBack : Type 0

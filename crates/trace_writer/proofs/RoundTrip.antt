@@ -1,6 +1,6 @@
 -- Numbers, written and read back. Assumes nothing.
 use Rattle.std.proofs.Common.{◌≡◌, ℕ, zero, suc, ◌+◌, ◌-◌, ◌*◌, ◌/◌, ◌%◌, ◌^◌, ◌<◌, ◌≤◌, eqb, ltb, List, [], ◌∷◌, ◌++◌, length, take, drop, Some, None, Ok, Err, Option, Result, sym, refl, ap, ◌∙◌, ⊎_elim, append_assoc, arith}
-use Rattle.std.specs.List.{AllByRecursion as All}
+use Rattle.std.specs.List.{AllByRecursion}
 use Rattle.std.proofs.ByRecursion.{All-drop}
 use Rattle.std.proofs.lemmas.List.{drop_at}
 use Rattle.std.proofs.lemmas.Bool.{cases_lt, cond-true, cond-false, lt-ltb, le-ltb, ne_eqb}
@@ -87,7 +87,7 @@ only_last k b bs v n lt e =
     let p = same_pair b 1 v n (sym (groups_last b bs lt) ∙ e) in
     ap (λ m. take m (b ∷ bs)) p.1 ∙ sym (coded_short k b lt) ∙ ap (coded_by k) (sym p.0)
 
-pub only_by : (k : ℕ) (bs : List ℕ) (v n : ℕ) → All (λ b. b < 256) bs → v < limit k → groups bs ≡ Some (v, n) → take n bs ≡ coded_by k v
+pub only_by : (k : ℕ) (bs : List ℕ) (v n : ℕ) → AllByRecursion (λ b. b < 256) bs → v < limit k → groups bs ≡ Some (v, n) → take n bs ≡ coded_by k v
 only_by k [] v n a h e = let z : ◌≡◌ {A = ℕ} 0 1 = cc in absurd (omega arith)
 only_by zero (b ∷ bs) v n a h e =
     ⊎_elim (λ lt. only_last zero b bs v n lt e) (λ le. let q = parts (b - 128) (groups bs) v n (sym (groups_next b bs le) ∙ e) in absurd (omega (arith, q.value, q.some))) (cases_lt b 128)

@@ -1,6 +1,6 @@
 -- A whole trace, written and read back. Assumes nothing.
 use Rattle.std.proofs.Common.{◌≡◌, ℕ, zero, suc, ◌+◌, ◌-◌, ◌^◌, ◌<◌, ◌≤◌, true, ◌&&◌, ltb, leb, List, [], ◌∷◌, ◌++◌, length, take, drop, replicate, Some, None, Ok, Option, sym, refl, ap, ◌∙◌, append_assoc, add-zero, zero-add, arith, length-append, length-take}
-use Rattle.std.specs.List.{flat_map, AllByRecursion as All}
+use Rattle.std.specs.List.{flat_map, AllByRecursion}
 use Rattle.std.proofs.ByRecursion.{All-take}
 use Rattle.std.proofs.lemmas.List.{take-append-drop, drop_at}
 use Rattle.std.proofs.lemmas.Bool.{cond-true, cond-false, le-ltb}
@@ -128,7 +128,7 @@ some_bytes : (kind : ℕ) (body : List ℕ) → 0 < length (record_of kind body)
 some_bytes kind body = omega (arith, length-append (coded kind) (coded (length body) ++ body), length_coded kind)
 
 module _ (bs : List ℕ) (short : length bs ≤ 65536) where
-  sps_rest : (n at : ℕ) (ss : List SpsOutcome) → All SpsSayable ss → 0 < at → drop at bs ≡ flat_map sps_record ss → length bs - at < n → Rest n bs at [] (placed sps_record at ss)
+  sps_rest : (n at : ℕ) (ss : List SpsOutcome) → AllByRecursion SpsSayable ss → 0 < at → drop at bs ≡ flat_map sps_record ss → length bs - at < n → Rest n bs at [] (placed sps_record at ss)
   sps_rest n at [] say h e fuel = rest_none n bs at (omega arith) h (omega (arith, room bs at [] [] e))
   sps_rest zero at (s ∷ ss) say h e fuel = absurd (omega arith)
   sps_rest (suc n) at (s ∷ ss) say h e fuel =
@@ -137,7 +137,7 @@ module _ (bs : List ℕ) (short : length bs ≤ 65536) where
       rest_more n bs at size _ _ _ _ (sps_reads bs short at s (flat_map sps_record ss) h say.0 e)
       (sps_rest n (at + size) ss say.1 (omega arith) (past bs at (sps_record s) (flat_map sps_record ss) e) (omega (arith, left, some_bytes 3 (sps_body s))))
 
-  arrivals_rest : (n at : ℕ) (xs : List Arrival) (ss : List SpsOutcome) → All ArrivalSayable xs → All SpsSayable ss → 0 < at → drop at bs ≡ flat_map arrival_record xs ++ flat_map sps_record ss → length bs - at < n → Rest n bs at (placed arrival_record at xs) (placed sps_record (at + length (flat_map arrival_record xs)) ss)
+  arrivals_rest : (n at : ℕ) (xs : List Arrival) (ss : List SpsOutcome) → AllByRecursion ArrivalSayable xs → AllByRecursion SpsSayable ss → 0 < at → drop at bs ≡ flat_map arrival_record xs ++ flat_map sps_record ss → length bs - at < n → Rest n bs at (placed arrival_record at xs) (placed sps_record (at + length (flat_map arrival_record xs)) ss)
   arrivals_rest n at [] ss say says h e fuel = rw add-zero (sps_rest n at ss says h e fuel)
   arrivals_rest zero at (x ∷ xs) ss say says h e fuel = absurd (omega arith)
   arrivals_rest (suc n) at (x ∷ xs) ss say says h e fuel =

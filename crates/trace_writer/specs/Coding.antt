@@ -1,6 +1,6 @@
 -- How a number is written, and the laws of writing and reading it. Assumes nothing.
 use Rattle.std.specs.Prelude.{◌≡◌, ℕ, zero, suc, ◌+◌, ◌/◌, ◌%◌, ◌^◌, ◌<◌, cond, List, [], ◌∷◌, ◌++◌, length, take, drop, Ok, nat_lt}
-use Rattle.std.specs.List.{AllByRecursion as All}
+use Rattle.std.specs.List.{AllByRecursion}
 use Rattle.trace.specs.Numbers.{number_at}
 
 -- at most n groups before the last
@@ -20,4 +20,4 @@ ReadsCoded =
 -- no other form is read: the n bytes that were read as v are those that are written for v
 abbrev pub OnlyCoded : Type 0
 OnlyCoded =
-    (bytes : List ℕ) (at v n : ℕ) → All (λ b. b < 256) bytes → number_at bytes at ≡ Ok (v, at + n) → take n (drop at bytes) ≡ coded v
+    (bytes : List ℕ) (at v n : ℕ) → AllByRecursion (λ b. b < 256) bytes → number_at bytes at ≡ Ok (v, at + n) → take n (drop at bytes) ≡ coded v

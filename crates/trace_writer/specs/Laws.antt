@@ -1,6 +1,6 @@
 -- A batch that was written is read back. Assumes nothing.
 use Rattle.std.specs.Prelude.{◌≡◌, ℕ, ◌+◌, ◌-◌, ◌^◌, ◌<◌, ◌≤◌, List, [], ◌∷◌, length, drop, replicate, Ok}
-use Rattle.std.specs.List.{flat_map, AllByRecursion as All}
+use Rattle.std.specs.List.{flat_map, AllByRecursion}
 use Rattle.harq.specs.declared.configs.Config.{Config}
 use Rattle.ue.specs.declared.arrivals.Arrival.{Arrival}
 use Rattle.ue.specs.declared.arrivals.SpsOutcome.{SpsOutcome}
@@ -9,7 +9,7 @@ use Rattle.trace_writer.specs.Writing.{config_numbers, arrival_numbers, sps_numb
 
 -- numbers of 32 bits
 abbrev pub Small : List ℕ → Type 0
-Small vs = All (λ v. v < 2 ^ 32) vs
+Small vs = AllByRecursion (λ v. v < 2 ^ 32) vs
 
 -- an array of that width, of which the first n count and the others are 0
 pub record Padded (width n : ℕ) (xs : List ℕ) : Type 0 where
@@ -52,7 +52,7 @@ abbrev pub ReadsWritten : Type 0
 ReadsWritten =
     (g : Config) (arrivals : List Arrival) (sps : List SpsOutcome)
     → ConfigSayable g
-    → All ArrivalSayable arrivals
-    → All SpsSayable sps
+    → AllByRecursion ArrivalSayable arrivals
+    → AllByRecursion SpsSayable sps
     → length (trace_of g arrivals sps) ≤ 65536
     → contents (trace_of g arrivals sps) ≡ Ok (batch_of g arrivals sps)

@@ -1,6 +1,6 @@
 -- What holds of a batch that is not declined. Assumes nothing.
 use Rattle.std.proofs.Common.{◌≡◌, ℕ, ◌+◌, ◌*◌, ◌<◌, ◌≤◌, Bool, true, false, cond, eqb, List, [], ◌∷◌, ◌++◌, map, length, is_some, Some, None, Ok, Err, Option, Result, unwrap_or, sym, refl, ap, ◌∙◌, subst, ap₂, arith}
-use Rattle.std.specs.List.{AllByRecursion as All}
+use Rattle.std.specs.List.{AllByRecursion}
 use Rattle.std.proofs.lemmas.List.{length-append, length-map}
 use Rattle.std.proofs.lemmas.Bool.{not-false, ltb-false, cond_both}
 use Rattle.harq.specs.declared.configs.Config.{Config}
@@ -68,7 +68,7 @@ module _ (g : Config) where
 
   -- what follows for each arrival from its own checks
   pub all_passing : (P : Arrival → Type 0) → ((earlier : List Arrival) (a : Arrival) → Passed g earlier a → P a) →
-      (xs earlier : List Arrival) → Passing g earlier xs → All P xs
+      (xs earlier : List Arrival) → Passing g earlier xs → AllByRecursion P xs
   all_passing P f [] earlier p = tt
   all_passing P f (a ∷ rest) earlier p = (f earlier a p.0, all_passing P f rest (earlier ++ a ∷ []) p.1)
 
@@ -94,7 +94,7 @@ module _ (g : Config) where
   span_some : 0 < span g
   span_some = cond_both (eqb g.width 1) 2 4 (λ s. 0 < s) (λ _. omega arith) (λ _. omega arith)
 
-  counters_within : (xs : List Arrival) → All (WasRead g) xs → Within (span g) (map (counter g) xs)
+  counters_within : (xs : List Arrival) → AllByRecursion (WasRead g) xs → Within (span g) (map (counter g) xs)
   counters_within [] h = tt
   counters_within (a ∷ xs) h = (counter_within (span g) (dai_of g a) h.0 (read_within g a.format a.field), counters_within xs h.1)
 
@@ -113,18 +113,18 @@ module _ (g : Config) where
   value_within s d None h k = h
   value_within s d (Some t) h k = k
 
-  last_read : (a : Arrival) (xs : List Arrival) → All (WasRead g) (a ∷ xs) → WasRead g (last_or a xs)
+  last_read : (a : Arrival) (xs : List Arrival) → AllByRecursion (WasRead g) (a ∷ xs) → WasRead g (last_or a xs)
   last_read a [] h = h.0
   last_read a (b ∷ xs) h = last_read b xs h.1
 
-  ends_within : (xs : List Arrival) → All (WasRead g) xs → 0 < length xs → (0 < end_value g xs) × (end_value g xs ≤ span g)
+  ends_within : (xs : List Arrival) → AllByRecursion (WasRead g) xs → 0 < length xs → (0 < end_value g xs) × (end_value g xs ≤ span g)
   ends_within [] h some = absurd (omega arith)
   ends_within (a ∷ xs) h some =
       let b : Arrival = last_or a xs in
       value_within (span g) (counter g b) (total_at g b.occasion (a ∷ xs))
       (counter_within (span g) (dai_of g b) (last_read a xs h) (read_within g b.format b.field)) (total_at_within b.occasion (a ∷ xs))
 
-  row_below : (xs : List Arrival) → All (WasRead g) xs →
+  row_below : (xs : List Arrival) → AllByRecursion (WasRead g) xs →
       Below (slot_count (span g) (map (counter g) xs) (end_value g xs)) (places (span g) 0 0 (map (counter g) xs))
   row_below [] h = tt
   row_below (a ∷ xs) h = below_from (span g) span_some (end_value g (a ∷ xs)) (map (counter g) (a ∷ xs)) 0 0 (counters_within (a ∷ xs) h)
@@ -132,10 +132,10 @@ module _ (g : Config) where
 -- arrivals that are accepted
 module _ (g : Config) (arrivals : List Arrival) (n : ℕ) (e : arrivals_judged g arrivals ≡ Ok n) where
   -- what follows for each counted arrival from its own checks
-  pub all_counted : (P : Arrival → Type 0) → ((earlier : List Arrival) (a : Arrival) → Passed g earlier a → P a) → All P (counted g arrivals)
+  pub all_counted : (P : Arrival → Type 0) → ((earlier : List Arrival) (a : Arrival) → Passed g earlier a → P a) → AllByRecursion P (counted g arrivals)
   all_counted P f = all_those (counting g) P arrivals (all_passing g P f arrivals [] (arrived g arrivals n e).passing)
 
-  counted_read : All (WasRead g) (counted g arrivals)
+  counted_read : AllByRecursion (WasRead g) (counted g arrivals)
   counted_read = all_counted (WasRead g) (λ _ a p. p.read)
 
   -- counters lie within 1..span

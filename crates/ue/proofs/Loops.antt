@@ -1,6 +1,6 @@
 -- The order in which two nested loops meet the arrivals. Assumes nothing.
 use Rattle.std.proofs.Common.{◌≡◌, ℕ, zero, suc, ◌+◌, ◌<◌, ◌≤◌, Bool, true, false, cond, ◌&&◌, eqb, List, [], ◌∷◌, ◌++◌, Some, Ok, Option, sym, refl, ap, ◌∙◌, ap₂, ⊎_elim, arith}
-use Rattle.std.specs.List.{AllByRecursion as All}
+use Rattle.std.specs.List.{AllByRecursion}
 use Rattle.std.proofs.ByRecursion.{All-weaker}
 use Rattle.std.proofs.lemmas.Bool.{cases_eq, eq-eqb, ne_eqb, ltb-true, and_parts, cond-true, cond-false}
 use Rattle.std.proofs.lemmas.Bool.Decides.{nat_tests}
@@ -18,7 +18,7 @@ use Rattle.ue.proofs.Accepted.{Passing, arrived, all_counted}
 -- each element stands so to all later ones
 abbrev Sorted : {X : Type 0} → (X → X → Type 0) → List X → Type 0
 Sorted R [] = Unit {0}
-Sorted R (x ∷ xs) = All (R x) xs × Sorted R xs
+Sorted R (x ∷ xs) = AllByRecursion (R x) xs × Sorted R xs
 
 module _ {X : Type 0} where
   sorted_those : (R : X → X → Type 0) (test : X → Bool) (xs : List X) → Sorted R xs → Sorted R (those test xs)
@@ -27,11 +27,11 @@ module _ {X : Type 0} where
       let more = sorted_those R test xs h.1 in
       elim (test x) as (λ b. Sorted R (cond b (x ∷ those test xs) (those test xs))) [ true ↦ (all_those test (R x) xs h.0, more) | false ↦ more ]
 
-  all_both : (P Q R : X → Type 0) → ((x : X) → P x → Q x → R x) → (xs : List X) → All P xs → All Q xs → All R xs
+  all_both : (P Q R : X → Type 0) → ((x : X) → P x → Q x → R x) → (xs : List X) → AllByRecursion P xs → AllByRecursion Q xs → AllByRecursion R xs
   all_both P Q R f [] p q = tt
   all_both P Q R f (x ∷ xs) p q = (f x p.0 q.0, all_both P Q R f xs p.1 q.1)
 
-  sorted_weaker : (R S : X → X → Type 0) (P : X → Type 0) → ((x y : X) → P x → P y → R x y → S x y) → (xs : List X) → All P xs → Sorted R xs → Sorted S xs
+  sorted_weaker : (R S : X → X → Type 0) (P : X → Type 0) → ((x y : X) → P x → P y → R x y → S x y) → (xs : List X) → AllByRecursion P xs → Sorted R xs → Sorted S xs
   sorted_weaker R S P f [] p h = tt
   sorted_weaker R S P f (x ∷ xs) p h = (all_both P (R x) (S x) (λ y q r. f x y p.0 q r) xs p.1 h.0, sorted_weaker R S P f xs p.1 h.1)
 
@@ -61,7 +61,7 @@ module _ {X : Type 0} (key : X → ℕ) where
   abbrev by_key : List X → ℕ → ℕ → List X
   by_key xs a n = all_of (keyed xs) (counting_from a n)
 
-  none_keyed : (xs : List X) (m : ℕ) → All (λ x. m < key x) xs → keyed xs m ≡ []
+  none_keyed : (xs : List X) (m : ℕ) → AllByRecursion (λ x. m < key x) xs → keyed xs m ≡ []
   none_keyed [] m h = refl
   none_keyed (x ∷ xs) m h =
       let lt : m < key x = h.0 in
@@ -73,20 +73,20 @@ module _ {X : Type 0} (key : X → ℕ) where
   met_past (suc n) a x xs lt =
       ap₂ ◌++◌ (cond-false (eqb (key x) a) (x ∷ keyed xs a) (keyed xs a) (ne_eqb (key x) a (λ e. omega arith))) (met_past n (a + 1) x xs (omega arith))
 
-  met_first : (n a : ℕ) (x : X) (xs : List X) → a ≤ key x → key x < a + n → All (λ y. key x ≤ key y) xs → by_key (x ∷ xs) a n ≡ x ∷ by_key xs a n
+  met_first : (n a : ℕ) (x : X) (xs : List X) → a ≤ key x → key x < a + n → AllByRecursion (λ y. key x ≤ key y) xs → by_key (x ∷ xs) a n ≡ x ∷ by_key xs a n
   met_first zero a x xs low high up = absurd (omega arith)
   met_first (suc n) a x xs low high up =
       ⊎_elim
       (λ e. ap₂ ◌++◌ (cond-true (eqb (key x) a) (x ∷ keyed xs a) (keyed xs a) (eq-eqb (key x) a e)) (met_past n (a + 1) x xs (omega arith)))
       (λ ne.
       let above : a < key x = omega arith in
-      let later : All (λ y. a < key y) xs = All-weaker (λ y. key x ≤ key y) (λ y. a < key y) (λ y h. omega arith) xs up in
+      let later : AllByRecursion (λ y. a < key y) xs = All-weaker (λ y. key x ≤ key y) (λ y. a < key y) (λ y h. omega arith) xs up in
       ap (λ (l : List X). l ++ by_key (x ∷ xs) (a + 1) n) (none_keyed (x ∷ xs) a (above, later))
       ∙ met_first n (a + 1) x xs (omega arith) (omega arith) up
       ∙ ap (λ (l : List X). x ∷ (l ++ by_key xs (a + 1) n)) (sym (none_keyed xs a later)))
       (cases_eq (key x) a)
 
-  met_all : (n : ℕ) (xs : List X) → Sorted (λ x y. key x ≤ key y) xs → All (λ x. key x < n) xs → by_key xs 0 n ≡ xs
+  met_all : (n : ℕ) (xs : List X) → Sorted (λ x y. key x ≤ key y) xs → AllByRecursion (λ x. key x < n) xs → by_key xs 0 n ≡ xs
   met_all n [] s h = all_of_none (counting_from 0 n)
   met_all n (x ∷ xs) s h =
       let lt : key x < n = h.0 in
@@ -102,7 +102,7 @@ above_trans p a b h k = grind (arith, nat_tests)
 abbrev InRange : Config → Arrival → Type 0
 InRange g a = in_range g a.cell a.occasion ≡ true
 
-module _ (g : Config) (xs : List Arrival) (s : Sorted Above xs) (h : All (InRange g) xs) where
+module _ (g : Config) (xs : List Arrival) (s : Sorted Above xs) (h : AllByRecursion (InRange g) xs) where
   -- the inner loop, through the cells in one occasion
   cells_meet : (m : ℕ) → all_of (λ c. those (is_at m c) xs) (counting_from 0 g.cells) ≡ keyed (λ a. a.occasion) xs m
   cells_meet m =
@@ -111,7 +111,7 @@ module _ (g : Config) (xs : List Arrival) (s : Sorted Above xs) (h : All (InRang
       let rise : Sorted (λ p a. p.cell ≤ a.cell) ys =
       sorted_weaker Above (λ p a. p.cell ≤ a.cell) (λ a. here a ≡ true) (λ p a e f u. grind (arith, nat_tests)) ys (those_pass here xs) (sorted_those Above here xs s)
       in
-      let low : All (λ a. a.cell < g.cells) xs = All-weaker (InRange g) (λ a. a.cell < g.cells) (λ a r. ltb-true _ _ (and_parts _ _ r).0) xs h in
+      let low : AllByRecursion (λ a. a.cell < g.cells) xs = All-weaker (InRange g) (λ a. a.cell < g.cells) (λ a r. ltb-true _ _ (and_parts _ _ r).0) xs h in
       all_of_same (λ c. those (is_at m c) xs) (keyed (λ a. a.cell) ys) (λ c. those_both here (λ a. eqb a.cell c) xs) (counting_from 0 g.cells)
       ∙ met_all (λ a. a.cell) g.cells ys rise (all_those here (λ a. a.cell < g.cells) xs low)
 
@@ -121,14 +121,14 @@ module _ (g : Config) (xs : List Arrival) (s : Sorted Above xs) (h : All (InRang
       let rise : Sorted (λ p a. p.occasion ≤ a.occasion) xs =
       sorted_weaker Above (λ p a. p.occasion ≤ a.occasion) (InRange g) (λ p a _ _ u. grind (arith, nat_tests)) xs h s
       in
-      let low : All (λ a. a.occasion < g.occasions) xs =
+      let low : AllByRecursion (λ a. a.occasion < g.occasions) xs =
       All-weaker (InRange g) (λ a. a.occasion < g.occasions) (λ a r. ltb-true _ _ (and_parts _ _ r).1) xs h
       in
       all_of_same (λ m. all_of (λ c. those (is_at m c) xs) (counting_from 0 g.cells)) (keyed (λ a. a.occasion) xs) cells_meet (counting_from 0 g.occasions)
       ∙ met_all (λ a. a.occasion) g.occasions xs rise low
 
 module _ (g : Config) where
-  all_above : (xs earlier : List Arrival) (p : Arrival) → last_of earlier ≡ Some p → Passing g earlier xs → All (Above p) xs
+  all_above : (xs earlier : List Arrival) (p : Arrival) → last_of earlier ≡ Some p → Passing g earlier xs → AllByRecursion (Above p) xs
   all_above [] earlier p e h = tt
   all_above (a ∷ xs) earlier p e h =
       let here : Above p a = ap (λ (o : Option Arrival). rises_above o a) (sym e) ∙ h.0.rises in

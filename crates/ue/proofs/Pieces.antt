@@ -1,6 +1,6 @@
 -- Lists made piece by piece, and those elements that pass a test. Assumes nothing.
 use Rattle.std.proofs.Common.{◌≡◌, ℕ, zero, suc, ◌+◌, ◌*◌, ◌<◌, Bool, true, cond, List, [], ◌∷◌, ◌++◌, length, get_or, filter, sym, refl, ap, ◌∙◌, subst, mul-zero, mul-suc, arith}
-use Rattle.std.specs.List.{AllByRecursion as All}
+use Rattle.std.specs.List.{AllByRecursion}
 use Rattle.std.proofs.ByRecursion.{all_kept_by, kept_by_passes}
 use Rattle.std.proofs.lemmas.List.{append-nil, append_assoc, length-append, get_or_append_left, get_or-append-add}
 use Rattle.harq.specs.Words.{those, all_of}
@@ -37,8 +37,8 @@ module _ {X : Type 0} (test : X → Bool) where
   those_is [] = refl
   those_is (x ∷ xs) = ap (λ (l : List X). cond (test x) (x ∷ l) l) (those_is xs)
 
-  pub all_those : (P : X → Type 0) (xs : List X) → All P xs → All P (those test xs)
-  all_those P xs h = subst (All P) (those_is xs) (all_kept_by test P xs h)
+  pub all_those : (P : X → Type 0) (xs : List X) → AllByRecursion P xs → AllByRecursion P (those test xs)
+  all_those P xs h = subst (AllByRecursion P) (those_is xs) (all_kept_by test P xs h)
 
-  pub those_pass : (xs : List X) → All (λ x. test x ≡ true) (those test xs)
-  those_pass xs = subst (All (λ x. test x ≡ true)) (those_is xs) (kept_by_passes test xs)
+  pub those_pass : (xs : List X) → AllByRecursion (λ x. test x ≡ true) (those test xs)
+  those_pass xs = subst (AllByRecursion (λ x. test x ≡ true)) (those_is xs) (kept_by_passes test xs)

@@ -1,6 +1,6 @@
 -- The walk over the arrivals judges them as the checks say. Assumes nothing.
 use Rattle.std.proofs.Common.{◌≡◌, ℕ, suc, ◌+◌, ◌<◌, ◌≤◌, Bool, true, false, cond, not, ◌&&◌, eqb, List, [], ◌∷◌, ◌++◌, map, length, is_some, IfOk, Some, None, Ok, Err, fold, Option, Result, unwrap_or, sym, refl, ap, ◌∙◌, subst, ⊎_elim, append-nil, arith}
-use Rattle.std.specs.List.{AllByRecursion as All}
+use Rattle.std.specs.List.{AllByRecursion}
 use Rattle.std.proofs.ByRecursion.{All-push, All-weaker}
 use Rattle.std.proofs.lemmas.List.{append_assoc, length_push, map_push, length-map}
 use Rattle.std.proofs.lemmas.List.Sums.{fold_push}
@@ -71,7 +71,7 @@ module _ (g : Config) where
   total_at_push m (x ∷ xs) a = ap (or_else (cond (eqb x.occasion m) (total g x) None)) (total_at_push m xs a) ∙ sym (or_assoc (cond (eqb x.occasion m) (total g x) None) (total_at g m xs) (cond (eqb a.occasion m) (total g a) None))
 
   -- an occasion above all others has no total yet
-  total_at_none : (m k : ℕ) (xs : List Arrival) → k < m → All (λ b. b.occasion ≤ k) xs → total_at g m xs ≡ None
+  total_at_none : (m k : ℕ) (xs : List Arrival) → k < m → AllByRecursion (λ b. b.occasion ≤ k) xs → total_at g m xs ≡ None
   total_at_none m k [] lt h = refl
   total_at_none m k (x ∷ xs) lt h =
       let ne : eqb x.occasion m ≡ false = ne_eqb _ _ (λ e. let l : x.occasion ≤ k = h.0 in omega arith) in
@@ -111,7 +111,7 @@ module _ (g : Config) where
   last_occasion (Some p) = p.0
 
   -- what is known of the next occasion is its total
-  known_is : (xs : List Arrival) (m : ℕ) → All (λ b. b.occasion ≤ upto (end_of xs)) xs → upto (end_of xs) ≤ m →
+  known_is : (xs : List Arrival) (m : ℕ) → AllByRecursion (λ b. b.occasion ≤ upto (end_of xs)) xs → upto (end_of xs) ≤ m →
       known_total (end_of xs) m ≡ total_at g m xs
   known_is [] m h le = refl
   known_is (x ∷ xs) m h le =
@@ -125,7 +125,7 @@ module _ (g : Config) where
 pub record Walked (g : Config) (earlier : List Arrival) (s : Walk) : Type 0 where
   pub last_is : s.last ≡ pair (last_of earlier)
   pub known : s.known ≡ end_of g (counted g earlier)
-  pub sorted : All (λ b. b.occasion ≤ upto g s.known) (counted g earlier)
+  pub sorted : AllByRecursion (λ b. b.occasion ≤ upto g s.known) (counted g earlier)
   pub behind : upto g s.known ≤ last_occasion g s.last
   pub placer_is : s.placer ≡ fold advanced (fresh (span g)) (counters g earlier)
 
@@ -147,7 +147,7 @@ module _ (g : Config) (earlier : List Arrival) (s : Walk) (w : Walked g earlier 
   -- the total that is known of the arrival's occasion
   known_here : known_total s.known a.occasion ≡ total_at g a.occasion (counted g earlier)
   known_here =
-      let sorted = subst (λ (k : Option Known). All (λ b. b.occasion ≤ upto g k) (counted g earlier)) w.known w.sorted in
+      let sorted = subst (λ (k : Option Known). AllByRecursion (λ b. b.occasion ≤ upto g k) (counted g earlier)) w.known w.sorted in
       let low = subst (λ (k : Option Known). upto g k ≤ a.occasion) w.known within in
       ap (λ (k : Option Known). known_total k a.occasion) w.known ∙ known_is g (counted g earlier) a.occasion sorted low
 
@@ -158,7 +158,7 @@ module _ (g : Config) (earlier : List Arrival) (s : Walk) (w : Walked g earlier 
       record {
         last_is = last_now;
         known = w.known ∙ ap (end_of g) same;
-        sorted = subst (λ (xs : List Arrival). All (λ b. b.occasion ≤ upto g s.known) xs) same w.sorted;
+        sorted = subst (λ (xs : List Arrival). AllByRecursion (λ b. b.occasion ≤ upto g s.known) xs) same w.sorted;
         behind = within;
         placer_is = w.placer_is ∙ ap (λ (xs : List Arrival). fold advanced (fresh (span g)) (map (counter g) xs)) same;
       }
@@ -169,13 +169,13 @@ module _ (g : Config) (earlier : List Arrival) (s : Walk) (w : Walked g earlier 
   walked_tallied e v t is total_is =
       let xs : List Arrival = counted g earlier in
       let more : counted g (earlier ++ a ∷ []) ≡ xs ++ a ∷ [] = those_push_yes (counting g) earlier a e in
-      let here : All (λ b. b.occasion ≤ a.occasion) (xs ++ a ∷ []) =
+      let here : AllByRecursion (λ b. b.occasion ≤ a.occasion) (xs ++ a ∷ []) =
       All-push (λ b. b.occasion ≤ a.occasion) xs a (All-weaker (λ b. b.occasion ≤ upto g s.known) (λ b. b.occasion ≤ a.occasion) (λ b h. omega (arith, within)) xs w.sorted) (omega arith)
       in
       record {
         last_is = last_now;
         known = ap (λ (u : Option ℕ). Some (record { occasion = a.occasion; total = u })) total_is ∙ sym (end_of_push g xs a) ∙ ap (end_of g) (sym more);
-        sorted = subst (λ (ys : List Arrival). All (λ b. b.occasion ≤ a.occasion) ys) (sym more) here;
+        sorted = subst (λ (ys : List Arrival). AllByRecursion (λ b. b.occasion ≤ a.occasion) ys) (sym more) here;
         behind = omega arith;
         placer_is =
             ap (λ (p : Placer). advanced p v) w.placer_is ∙ ap (advanced (fold advanced (fresh (span g)) (counters g earlier))) is
