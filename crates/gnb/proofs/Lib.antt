@@ -1,7 +1,10 @@
 pub mod Calling
 pub mod Planning
+pub mod Firsts
+pub mod Tallies
 pub mod Accepted
 pub mod Runs
 pub mod Order
 pub mod Sent
 pub mod ReadBack
+pub mod Entries

@@ -1,10 +1,10 @@
 -- The assignments that a list of numbering calls sends. Assumes nothing.
-use Rattle.std.specs.Prelude.{◌≡◌, ℕ, ◌+◌, ◌*◌, ◌≤◌, Bool, cond, not, List, [], ◌∷◌, ◌++◌, map, length, take, drop, Some, None, Ok, ◌==◌}
+use Rattle.std.specs.Prelude.{◌≡◌, ℕ, ◌+◌, ◌*◌, ◌≤◌, Bool, true, cond, not, List, [], ◌∷◌, ◌++◌, map, length, take, drop, Some, None, Ok, ◌==◌}
 use Rattle.std.specs.List.{AllByRecursion}
 use Rattle.dai.specs.Values.{value}
 use Rattle.harq.specs.declared.configs.Config.{Config}
 use Rattle.harq.specs.declared.sps.SpsEntry.{SpsEntry}
-use Rattle.harq.specs.Words.{those, counting_from}
+use Rattle.harq.specs.Words.{every, those, counting_from}
 use Rattle.harq.specs.Configs.{span, layout_of, read_dai, carries_total}
 use Rattle.gnb.specs.declared.batches.BatchState.{BatchState}
 use Rattle.gnb.specs.declared.grants.Grant.{Grant}
@@ -12,6 +12,7 @@ use Rattle.gnb.specs.declared.grants.GrantEntry.{GrantEntry}
 use Rattle.gnb.specs.Marks.{answered_blocks, unanswered}
 use Rattle.gnb.specs.Calls.{call_refused, field_by, batch_by, batch_after, table_after, expected}
 use Rattle.gnb.specs.Opening.{opened, fresh_batch}
+use Rattle.gnb.specs.Readings.{has_place}
 
 -- a numbering call: an occasion and its grants
 pub record Call : Type 0 where
@@ -130,3 +131,9 @@ abbrev pub FieldsReadBack : Type 0
 FieldsReadBack =
     (g : Config) (sps : List SpsEntry) (table : ℕ) (calls : List Call) →
     AllReadBack g 0 (accepted_calls (fresh_batch g sps) table calls)
+
+-- each grant of the card's own table has a place in the report that answers all of them
+abbrev pub OwnPlaces : Type 0
+OwnPlaces =
+    (g : Config) (sps : List SpsEntry) (marks : ℕ) (b : BatchState) (table : List GrantEntry) (calls : List Call) → opened g sps marks ≡ Ok b →
+    every (has_place (batch_run b table calls).numbered) (take (batch_run b table calls).numbered (table_run b table calls)) ≡ true

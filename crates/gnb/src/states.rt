@@ -6,6 +6,7 @@ use crate::batches::BatchState;
 mod calls;
 mod opening;
 mod plans;
+mod reports;
 
 pub use plans::plan;
 

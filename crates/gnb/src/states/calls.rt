@@ -186,7 +186,7 @@ impl BatchState {
     }
 
     // The length of the report that answers all.
-    fn expected(&self) -> usize
+    pub(super) fn expected(&self) -> usize
         requires { (self.now.numbered ≤ 512) × (self.now.sps ≤ 64) }
         ensures is { result ≡ expected self.now }
     {

@@ -1,5 +1,5 @@
 // A batch planned: what a list of numbering calls would send, and the length of the report that would answer it.
-ghost use Rattle.std.specs.Prelude.{◌≡◌, map, length};
+ghost use Rattle.std.specs.Prelude.{◌≡◌, ◌≤◌, map, length};
 ghost use Rattle.gnb.specs.Opening.{marks_opened};
 ghost use Rattle.gnb.specs.Sending.{batch_run, table_run};
 ghost use Rattle.gnb.specs.Plans.{call_of, planned, table_planned};
@@ -10,14 +10,24 @@ use crate::marks::Mark;
 use harq::{Config, Refusal, SpsEntry};
 
 impl Numbering {
-    // Numbers the grants of each call in turn; a declined call leaves all as it was.
-    fn number_all(&mut self, table: &mut [GrantEntry], calls: &[Call])
+    fn number_each(&mut self, table: &mut [GrantEntry], calls: &[Call])
         ensures batch { self.new.batch ≡ batch_run self.old.batch table.old (map call_of calls.now) }
         ensures table { table.new ≡ table_run self.old.batch table.old (map call_of calls.now) }
     {
         for call in calls {
             let _ = self.number(table, call.occasion, call.grants);
         }
+    }
+
+    // Numbers the grants of each call in turn, and answers how many are numbered then; a declined call leaves all as it was.
+    pub fn number_all(&mut self, table: &mut [GrantEntry], calls: &[Call]) -> u32
+        ensures answer { result ≡ (batch_run self.old.batch table.old (map call_of calls.now)).numbered }
+        ensures few { result ≤ 512 }
+        ensures batch { self.new.batch ≡ batch_run self.old.batch table.old (map call_of calls.now) }
+        ensures table { table.new ≡ table_run self.old.batch table.old (map call_of calls.now) }
+    {
+        self.number_each(table, calls);
+        self.batch.numbered
     }
 }
 
