@@ -1,0 +1,13 @@
+pub mod Picked
+pub mod Sendings
+pub mod Arriving
+pub mod Ends
+pub mod Sides
+pub mod UeSide
+pub mod Bits
+pub mod Marking
+pub mod Counting
+pub mod Left
+pub mod Told
+pub mod Cards
+pub mod Agreed

@@ -1,0 +1,4 @@
+pub mod Fates
+pub mod Exchanges
+pub mod Losses
+pub mod Agreement
