@@ -8,3 +8,5 @@ pub mod Refused
 pub mod FirstFaults
 pub mod Longest
 pub mod Numbered
+pub mod Exchanged
+pub mod Settled

@@ -29,14 +29,14 @@ abbrev opens : Config → List SpsEntry → ℕ → List ℕ
 opens g sps marks = told_by (opening_refused g sps marks) ∷ []
 
 -- a grant, and a call
-abbrev grant : ℕ → ℕ → ℕ → Grant
+abbrev pub grant : ℕ → ℕ → ℕ → Grant
 grant cell format b = record { cell = cell; format = format; blocks = b }
 
-abbrev call : ℕ → List Grant → Call
+abbrev pub call : ℕ → List Grant → Call
 call occasion grants = record { occasion = occasion; grants = grants }
 
 -- one block by format 1_1
-abbrev on : ℕ → Grant
+abbrev pub on : ℕ → Grant
 on cell = grant cell by_1_1 1
 
 -- a declined call tells 100 and the number of the refusal, an accepted one how many are numbered
@@ -71,7 +71,7 @@ abbrev length_behind : Config → List SpsEntry → List Call → List ℕ
 length_behind g sps calls = expected (behind (fresh_batch g sps) 512 calls) ∷ (behind (fresh_batch g sps) 512 calls).granted ∷ []
 
 -- the worked batch: two cells, three occasions, five assignments
-abbrev five : List Call
+abbrev pub five : List Call
 five = call 0 (on 0 ∷ on 1 ∷ []) ∷ call 1 (on 1 ∷ []) ∷ call 2 (on 0 ∷ on 1 ∷ []) ∷ []
 
 -- a grant on each cell in each occasion

@@ -4,11 +4,13 @@
 
 ghost use Rattle.tables.specs.Counting.{CountersTold, TotalsTold, UncountedTold};
 ghost use Rattle.tables.specs.Dai.{NumbersTold, FieldsRead};
+ghost use Rattle.tables.specs.Exchanged.{ExchangesWorked, CountsWorked};
 ghost use Rattle.tables.specs.FirstFaults.{FirstTold};
 ghost use Rattle.tables.specs.Longest.{OneBlockTold, TwoBlocksTold, LengthOrderTold};
 ghost use Rattle.tables.specs.Numbered.{OpeningsTold, CallsTold, ReasonsTold, SendingTold};
 ghost use Rattle.tables.specs.PlaceBits.{PlacesTold, SpsTold};
 ghost use Rattle.tables.specs.Refused.{RefusalsNumbered, ConfigurationsJudged, ArrivalsJudged, FieldsJudged, BlocksJudged, TotalsJudged, UncountedJudged, SpsJudged, WholeJudged};
+ghost use Rattle.tables.specs.Settled.{MarkedTold, AnswersTold, RefusalsTold};
 ghost use Rattle.tables.specs.Worked.{FieldsWorked, BatchesWorked, SlotsWorked};
 
 // DAI values, layouts by format, and fields coded and read.
@@ -19,11 +21,13 @@ pub fn dai_told() -> u8
     0
 }
 
-// Reports for batches with losses, their DAI fields, and the slots behind them.
+// Batches with losses: their DAI fields, reports and slots, and both cards with the marks and counts.
 pub fn worked_batches() -> u8
     ensures fields { FieldsWorked }
     ensures reports { BatchesWorked }
     ensures slots { SlotsWorked }
+    ensures exchanges { ExchangesWorked }
+    ensures counts { CountsWorked }
 {
     0
 }
@@ -82,6 +86,15 @@ pub fn numbering_told() -> u8
     ensures calls { CallsTold }
     ensures reasons { ReasonsTold }
     ensures sending { SendingTold }
+{
+    0
+}
+
+// Reports read at the gNB, whoever made them: marks and counts, whether a report answers, and why reading is declined.
+pub fn readings_told() -> u8
+    ensures marked { MarkedTold }
+    ensures answers { AnswersTold }
+    ensures refusals { RefusalsTold }
 {
     0
 }
