@@ -1,6 +1,6 @@
 -- When the cards agree. Assumes nothing.
--- To read: `A ↔ B` is "exactly when", `A ⊎ B` is "or", `A × B` is "and", `A → ⊥` is "not A", `(k : ℕ) → A` is "for every number k", `get_or xs i d` is
--- the i-th element of xs counted from 0 (d past its end), `x.f` is the field f of x, `made r P` is "if r is an answer, P holds of it".
+-- To read: `A ↔ B` is "exactly when", `A ⊎ B` is "or", `A × B` is "and", `A → ⊥` is "not A", `(k : ℕ) → A` is "for every number k", `get_or xs i d` and
+-- `slice_index_or xs i d` are the i-th element of xs counted from 0 (d past its end), `x.f` is the field f of x, `IfOk r P` is "if r is an answer, P holds of it".
 use Rattle.std.specs.Prelude.{◌≡◌, ℕ, ◌+◌, ◌-◌, ◌*◌, ◌<◌, ◌≤◌, Bool, true, not, ◌⊎◌, ◌↔◌, List, ◌++◌, map, length, get_or, take, is_ok, IfOk, None, Ok, nat_le, slice_index, slice_index_or}
 use Rattle.harq.specs.Words.{every}
 use Rattle.harq.specs.Configs.{bits_per_place}
