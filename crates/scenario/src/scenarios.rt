@@ -1,0 +1,321 @@
+// A scenario: what both cards are set to, what the gNB is asked to number, and what becomes of it on the air.
+use crate::failures::Failure;
+use crate::lines::Line;
+use agreement::Fate;
+use gnb::Grant;
+use harq::{Config, SpsEntry};
+use std::alloc::{AllocError, Global};
+use ue::SpsOutcome;
+
+// The most assignments that a batch has: 16 cells, 32 occasions.
+pub const MOST: u32 = 512;
+
+// An assignment that arrives, with both its blocks decoded.
+const DECODED: Fate = Fate {
+    arrived: true,
+    outcomes: [1; 2],
+};
+
+// A numbering call that owns its grants.
+#[derive(Drop)]
+pub struct Request {
+    pub occasion: u32,
+    pub grants: Vec<Grant>,
+}
+
+#[derive(Drop)]
+pub struct Scenario {
+    pub name: String,
+    pub config: Config,
+    // How many entries the grant table has.
+    pub entries: u32,
+    pub sps: Vec<SpsOutcome>,
+    pub requests: Vec<Request>,
+    // The fates of the numbers 1, 2, ..
+    pub fates: Vec<Fate>,
+}
+
+// A scenario as far as its lines have been read.
+#[derive(Drop)]
+pub struct Draft<'a> {
+    name: &'a str,
+    cells: Option<u32>,
+    occasions: Option<u32>,
+    width: Option<u32>,
+    mode: Option<u32>,
+    first: Option<[u32; 16]>,
+    entries: Option<u32>,
+    sps: Vec<SpsOutcome>,
+    requests: Vec<Request>,
+    fates: Vec<Fate>,
+    // Whether it has a heading or a line of its own.
+    begun: bool,
+}
+
+// Takes the only number of a line as a setting that has not been made.
+fn set<'a>(
+    setting: &mut Option<u32>,
+    line: &Line<'a>,
+    name: &'static str,
+    most: u32,
+    expected: &'static str,
+) -> Result<(), Failure<'a>> {
+    if setting.is_some() {
+        return Err(Failure::Twice {
+            line: line.number,
+            setting: name,
+        });
+    }
+    *setting = Some(line.number(1, most, expected)?);
+    line.end(2)
+}
+
+// A setting that a scenario must have.
+fn needed<'a>(setting: Option<u32>, line: usize, name: &'static str) -> Result<u32, Failure<'a>> {
+    match setting {
+        Some(value) => Ok(value),
+        None => Err(Failure::Unset {
+            line,
+            setting: name,
+        }),
+    }
+}
+
+// The format that a word writes.
+fn format_of<'a>(line: &Line<'a>, at: usize) -> Result<u32, Failure<'a>> {
+    let expected = "a format, 1_0, 1_1 or 1_2";
+    match line.word(at, expected)? {
+        "1_0" => Ok(0),
+        "1_1" => Ok(1),
+        "1_2" => Ok(2),
+        found => Err(line.other(expected, found)),
+    }
+}
+
+// The outcome at a place of the line.
+fn outcome_of<'a>(line: &Line<'a>, at: usize) -> Result<u8, Failure<'a>> {
+    let outcome = line.number(at, 1, "an outcome, 0 or 1")?;
+    Ok(u8::from(outcome == 1))
+}
+
+// An SPS reception: cell, configuration, slot and outcome.
+fn sps_of<'a>(line: &Line<'a>) -> Result<SpsOutcome, Failure<'a>> {
+    let cell = line.number(1, u32::MAX, "a cell number")?;
+    let configuration = line.number(2, u32::MAX, "an SPS configuration")?;
+    let slot = line.number(3, u32::MAX, "a slot number")?;
+    let outcome = outcome_of(line, 4)?;
+    line.end(5)?;
+    let entry = SpsEntry {
+        cell,
+        configuration,
+        slot,
+    };
+    Ok(SpsOutcome { entry, outcome })
+}
+
+// A grant: cell, format and blocks.
+fn grant_of<'a>(line: &Line<'a>) -> Result<Grant, Failure<'a>> {
+    let cell = line.number(1, u32::MAX, "a cell number")?;
+    let format = format_of(line, 2)?;
+    let blocks = line.number(3, u32::MAX, "a number of blocks")?;
+    line.end(4)?;
+    Ok(Grant {
+        cell,
+        format,
+        blocks,
+    })
+}
+
+// The first counted occasions, one for each cell that has one.
+fn firsts_of<'a>(line: &Line<'a>) -> Result<[u32; 16], Failure<'a>> {
+    let mut first = [0; 16];
+    first[0] = line.number(1, u32::MAX, "an occasion")?;
+    for cell in 1..16 {
+        if cell + 1 < line.words.len() {
+            first[cell] = line.number(cell + 1, u32::MAX, "an occasion")?;
+        }
+    }
+    line.end(17)?;
+    Ok(first)
+}
+
+// Loses the numbers from `from` to `to`.
+fn lose(fates: &mut [Fate], from: u32, to: u32) {
+    for i in 0..fates.len() {
+        let number = i + 1;
+        if from as usize <= number && number <= to as usize {
+            fates[i].arrived = false;
+        }
+    }
+}
+
+impl<'a> Draft<'a> {
+    // Before the first line, with no heading.
+    pub fn new(heap: Global) -> Result<Draft<'a>, AllocError> {
+        let fates = vec![in heap; DECODED; 512]?;
+        Ok(Draft {
+            name: "",
+            cells: None,
+            occasions: None,
+            width: None,
+            mode: None,
+            first: None,
+            entries: None,
+            sps: Vec::new(heap),
+            requests: Vec::new(heap),
+            fates,
+            begun: false,
+        })
+    }
+
+    // Below a heading.
+    pub fn headed(heap: Global, name: &'a str) -> Result<Draft<'a>, AllocError> {
+        let mut draft = Draft::new(heap)?;
+        draft.name = name;
+        draft.begun = true;
+        Ok(draft)
+    }
+
+    // Whether it has a heading or a line of its own.
+    pub fn is_begun(&self) -> bool {
+        self.begun
+    }
+
+    fn take_first(&mut self, line: &Line<'a>) -> Result<(), Failure<'a>> {
+        if self.first.is_some() {
+            return Err(Failure::Twice {
+                line: line.number,
+                setting: "first",
+            });
+        }
+        self.first = Some(firsts_of(line)?);
+        Ok(())
+    }
+
+    fn take_call(&mut self, heap: Global, line: &Line<'a>) -> Result<(), Failure<'a>> {
+        let occasion = line.number(1, u32::MAX, "an occasion")?;
+        line.end(2)?;
+        self.requests.push(Request {
+            occasion,
+            grants: Vec::new(heap),
+        })?;
+        Ok(())
+    }
+
+    fn take_grant(&mut self, line: &Line<'a>) -> Result<(), Failure<'a>> {
+        let grant = grant_of(line)?;
+        let Some(request) = self.requests.last_mut() else {
+            return Err(Failure::NoCall { line: line.number });
+        };
+        request.grants.push(grant)?;
+        Ok(())
+    }
+
+    fn take_losses(&mut self, line: &Line<'a>) -> Result<(), Failure<'a>> {
+        let expected = "an assignment's number, 1 to 512, or a range such as 2-4";
+        line.word(1, expected)?;
+        for word in line.words.iter().skip(1).copied() {
+            let (from, to) = line.range(word, MOST, expected)?;
+            lose(self.fates.as_mut_slice(), from, to);
+        }
+        Ok(())
+    }
+
+    fn take_outcomes(&mut self, line: &Line<'a>) -> Result<(), Failure<'a>> {
+        let expected = "an assignment's number, 1 to 512";
+        let found = line.word(1, expected)?;
+        let number = line.number(1, MOST, expected)?;
+        let first = outcome_of(line, 2)?;
+        let second = if line.words.len() > 3 {
+            outcome_of(line, 3)?
+        } else {
+            1
+        };
+        line.end(4)?;
+        let at = (number as usize).wrapping_sub(1);
+        let Some(fate) = self.fates.get_mut(at) else {
+            return Err(line.other(expected, found));
+        };
+        fate.outcomes = [first, second];
+        Ok(())
+    }
+
+    // Takes a line that is no setting.
+    fn take_event(
+        &mut self,
+        heap: Global,
+        line: &Line<'a>,
+        word: &'a str,
+    ) -> Result<(), Failure<'a>> {
+        match word {
+            "sps" => {
+                self.sps.push(sps_of(line)?)?;
+                Ok(())
+            }
+            "call" => self.take_call(heap, line),
+            "grant" => self.take_grant(line),
+            "lost" => self.take_losses(line),
+            "outcome" => self.take_outcomes(line),
+            _ => Err(line.other("a line's first word, as 'cells' or 'call'", word)),
+        }
+    }
+
+    // Takes a line, which may be empty.
+    pub fn take(&mut self, heap: Global, line: &Line<'a>) -> Result<(), Failure<'a>> {
+        let Some(word) = line.words.first().copied() else {
+            return Ok(());
+        };
+        self.begun = true;
+        let any = u32::MAX;
+        match word {
+            "cells" => set(&mut self.cells, line, "cells", any, "a number of cells"),
+            "occasions" => set(
+                &mut self.occasions,
+                line,
+                "occasions",
+                any,
+                "a number of occasions",
+            ),
+            "width" => set(&mut self.width, line, "width", any, "a width in bits"),
+            "mode" => set(&mut self.mode, line, "mode", any, "a mode"),
+            "table" => set(
+                &mut self.entries,
+                line,
+                "table",
+                MOST,
+                "a number of entries up to 512",
+            ),
+            "first" => self.take_first(line),
+            _ => self.take_event(heap, line, word),
+        }
+    }
+
+    // The scenario whose last line has been read.
+    pub fn finish(self, heap: Global, line: usize) -> Result<Scenario, Failure<'a>> {
+        let cells = needed(self.cells, line, "cells")?;
+        let occasions = needed(self.occasions, line, "occasions")?;
+        let config = Config {
+            cells,
+            occasions,
+            width: self.width.unwrap_or(0),
+            mode: self.mode.unwrap_or(0),
+            first: self.first.unwrap_or([0; 16]),
+        };
+        let Draft {
+            name,
+            entries,
+            sps,
+            requests,
+            fates,
+            ..
+        } = self;
+        Ok(Scenario {
+            name: String::from_str(heap, name)?,
+            config,
+            entries: entries.unwrap_or(MOST),
+            sps,
+            requests,
+            fates,
+        })
+    }
+}
