@@ -1,0 +1,4 @@
+pub mod Calling
+pub mod Joining
+pub mod Reading
+pub mod Telling
