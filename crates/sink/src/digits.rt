@@ -5,6 +5,7 @@ ghost use Rattle.sink.specs.Ends.{text_taken, text_room, TextTook};
 use crate::BitSink;
 use harq::Refusal;
 
+// Not one type with `PackedBits`: list, room and memory of each go by another unit, a byte or a bit.
 #[derive(Drop)]
 pub struct TextBits<'a> {
     bytes: &'a mut [u8],

@@ -6,7 +6,7 @@ ghost use Rattle.sink.specs.Ends.{capacity, packed_taken, packed_room, PackedToo
 use crate::BitSink;
 use harq::Refusal;
 
-// Only the first 65,536 bytes count; every bit that was not put stays.
+// The lent bytes, and how many of their bits are used: contracts name both. Only the first 65,536 bytes count; every bit that was not put stays.
 #[derive(Drop)]
 pub struct PackedBits<'a> {
     bytes: &'a mut [u8],
