@@ -1,11 +1,10 @@
 -- Coding and reading are inverse, in every layout.
-use Rattle.std.proofs.Common.{◌≡◌, ◌^◌, ◌<◌, Bool, true, false, cond, ltb, is_some, Some, None, sym, refl, ◌∙◌, arith}
-use Rattle.std.proofs.lemmas.Bool.{lt-ltb, ltb-true}
+use Rattle.std.proofs.Common.{◌<◌, arith}
 use Rattle.std.proofs.lemmas.Bool.Decides.{nat_tests}
 use Rattle.dai.specs.declared.Layout.{Layout}
 use Rattle.dai.specs.declared.Layout.TheVariants.{One, Two, Four}
 use Rattle.dai.specs.Values.{value}
-use Rattle.dai.specs.Fields.{width, span}
+use Rattle.dai.specs.Fields.{span}
 use Rattle.dai.specs.Laws.{ValuesReturn, NumbersReturn, ValuesRead, FieldsReturn, AcceptedBelow}
 use Rattle.dai.proofs.Spans.{value_within}
 
@@ -34,11 +33,7 @@ fields_return One f v o h t = grind (arith, nat_tests)
 fields_return Two f v o h t = grind (arith, nat_tests)
 fields_return Four f v o h t = grind (arith, nat_tests)
 
-some_if : {X : Type 0} (b : Bool) (x : X) → is_some (cond b (Some x) None) ≡ b
-some_if true x = refl
-some_if false x = refl
-
 pub accepted_below : AcceptedBelow
-accepted_below l f =
-    let test = some_if (ltb f (2 ^ width l)) _ in
-    (λ h. ltb-true f (2 ^ width l) (sym test ∙ h), λ h. test ∙ lt-ltb f (2 ^ width l) h)
+accepted_below One f = grind (arith, nat_tests)
+accepted_below Two f = grind (arith, nat_tests)
+accepted_below Four f = grind (arith, nat_tests)

@@ -22,24 +22,22 @@ pub enum Layout {
 
 // What a field of a layout without a total holds.
 fn counter_alone<L: CounterLayout>(field: u32) -> Option<(u32, Option<u32>)>
-    ensures { result ≡ within_bits L.CounterLayout.bits field (counter_at L.CounterLayout.unit field, None) }
+    ensures { result ≡ within_bits L.CounterLayout.WIDTH field (counter_at L.CounterLayout.UNIT field, None) }
 {
-    let counter = L::read_counter(field)?;
-    Some((counter, None))
+    Some((L::read_counter(field)?, None))
 }
 
 // What a field of a layout with a total holds.
 fn counter_and_total<L: TotalLayout>(field: u32) -> Option<(u32, Option<u32>)>
-    ensures { result ≡ within_bits L.CounterLayout.bits field (counter_at L.CounterLayout.unit field, Some (total_at L.CounterLayout.span field)) }
+    ensures { result ≡ within_bits L.CounterLayout.WIDTH field (counter_at L.CounterLayout.UNIT field, Some (total_at L.CounterLayout.SPAN field)) }
 {
-    let counter = L::read_counter(field)?;
-    let total = L::read_total(field)?;
-    Some((counter, Some(total)))
+    Some((L::read_counter(field)?, Some(L::read_total(field)?)))
 }
 
 // The field of a layout with a total.
+#[tactic(auto, using(crate::proofs::Spans::part_below, crate::proofs::Spans::code_below))]
 fn both_coded<L: TotalLayout>(number: u32, numbered: u32) -> u32
-    ensures { result ≡ counter_part L.CounterLayout.span L.CounterLayout.unit number + number_code L.CounterLayout.span numbered }
+    ensures { result ≡ counter_part L.CounterLayout.SPAN L.CounterLayout.UNIT number + number_code L.CounterLayout.SPAN numbered }
 {
     L::code_counter(number) + L::code_total(numbered)
 }
@@ -66,33 +64,24 @@ pub fn code(layout: Layout, number: u32, numbered: u32) -> u32
     }
 }
 
-// The laws of the definitions.
-fn laws()
-    ensures values { ValuesReturn }
-    ensures numbers { NumbersReturn }
-    ensures within { ValuesRead }
-    ensures fields { FieldsReturn }
-    ensures accepted { AcceptedBelow }
-{}
-
 // Code, then read: the values come back.
+#[tactic(auto, using(crate::proofs::Returns::values_return, crate::proofs::Returns::numbers_return))]
 pub fn values_return(layout: Layout, number: u32, numbered: u32) -> Option<(u32, Option<u32>)>
     ensures values { ValuesReturn }
     ensures numbers { NumbersReturn }
     ensures is { result ≡ Some (told layout (value (span layout) number) (value (span layout) numbered)) }
 {
-    laws();
     read(layout, code(layout, number, numbered))
 }
 
 // Read, then code: the field comes back, unless it is too wide.
+#[tactic(auto, using(crate::proofs::Returns::values_read, crate::proofs::Returns::fields_return, crate::proofs::Returns::accepted_below))]
 pub fn fields_return(layout: Layout, field: u32) -> Option<u32>
     ensures within { ValuesRead }
     ensures fields { FieldsReturn }
     ensures accepted { AcceptedBelow }
     ensures is { result ≡ within_bits (width layout) field field }
 {
-    laws();
     let (counter, total) = read(layout, field)?;
     Some(code(layout, counter, total.unwrap_or(1)))
 }

@@ -1,48 +1,28 @@
 -- One byte's bits, each law by a computed test of every byte.
 use Rattle.std.proofs.Common.{◌≡◌, ℕ, zero, suc, ◌-◌, ◌/◌, ◌^◌, ◌<◌, Bool, true, false, not, ◌&&◌, eqb, List, [], ◌∷◌, map, length, get_or, set, sym, refl, ap, ◌∙◌, arith}
 use lib.Bits.{bit_and, bit_or}
-use Rattle.std.proofs.lemmas.Bool.{and_parts, eqb-true, false≢true}
-use Rattle.std.proofs.lemmas.Bool.Decides.{Decides-below_and}
+use Rattle.std.proofs.Math.Bool.{beq}
+use Rattle.std.proofs.lemmas.Bool.{and_parts, eqb-true, agree_below, agree_below_at}
+use Rattle.std.proofs.lemmas.Slice.Eq.{slice_eq-Decides}
+use Rattle.std.specs.Cmp.{booleans_Decides}
+use Rattle.std.specs.Cmp.Lexicographic.{pointwise}
 use Rattle.std.proofs.lemmas.List.{get_or-map}
 use Rattle.sink.specs.Bits.{bit_of, places, byte_bits, number_from}
 
-abbrev same_bit : Bool → Bool → Bool
-same_bit true b = b
-same_bit false b = not b
-
-abbrev same_bits : List Bool → List Bool → Bool
-same_bits [] [] = true
-same_bits [] (y ∷ ys) = false
-same_bits (x ∷ xs) [] = false
-same_bits (x ∷ xs) (y ∷ ys) = same_bit x y && same_bits xs ys
-
-same_bit_is : (a b : Bool) → same_bit a b ≡ true → a ≡ b
-same_bit_is true b e = sym e
-same_bit_is false true e = e
-same_bit_is false false e = refl
-
-same_bits_is : (xs ys : List Bool) → same_bits xs ys ≡ true → xs ≡ ys
-same_bits_is [] [] e = refl
-same_bits_is [] (y ∷ ys) e = absurd (false≢true e)
-same_bits_is (x ∷ xs) [] e = absurd (false≢true e)
-same_bits_is (x ∷ xs) (y ∷ ys) e =
-    let both = and_parts (same_bit x y) (same_bits xs ys) e in
-    let p = same_bit_is x y both.0 in
-    let q = same_bits_is xs ys both.1 in
-    cc
+same_bits_is : (xs ys : List Bool) → pointwise beq xs ys ≡ true → xs ≡ ys
+same_bits_is xs ys = (slice_eq-Decides booleans_Decides xs ys (pointwise beq xs ys) refl).0
 
 -- a test of each number below n
 abbrev every : (ℕ → Bool) → ℕ → Bool
-every test zero = true
-every test (suc n) = test n && every test n
+every test n = agree_below test (λ _. true) n
 
 every_at : (test : ℕ → Bool) (n : ℕ) → every test n ≡ true → (k : ℕ) → k < n → test k ≡ true
-every_at test n = (Decides-below_and test (λ k. test k ≡ true) (every test) (λ k. (λ e. e, λ e. e)) refl (λ _. refl) n).0
+every_at test n e k = agree_below_at test (λ _. true) n k e
 
 -- two words for the bits of a byte and a place in it, tested at each
-each_place : (f g : ℕ → ℕ → List Bool) → every (λ k. every (λ x. same_bits (f x k) (g x k)) 256) 8 ≡ true → (x k : ℕ) → x < 256 → k < 8 → f x k ≡ g x k
+each_place : (f g : ℕ → ℕ → List Bool) → every (λ k. every (λ x. pointwise beq (f x k) (g x k)) 256) 8 ≡ true → (x k : ℕ) → x < 256 → k < 8 → f x k ≡ g x k
 each_place f g e x k hx hk =
-    same_bits_is _ _ (every_at (λ y. same_bits (f y k) (g y k)) 256 (every_at (λ j. every (λ y. same_bits (f y j) (g y j)) 256) 8 e k hk) x hx)
+    same_bits_is _ _ (every_at (λ y. pointwise beq (f y k) (g y k)) 256 (every_at (λ j. every (λ y. pointwise beq (f y j) (g y j)) 256) 8 e k hk) x hx)
 
 pub set_one : (x k : ℕ) → x < 256 → k < 8 → byte_bits (bit_or x (128 / 2 ^ k)) ≡ set (byte_bits x) k true
 set_one = each_place (λ x k. byte_bits (bit_or x (128 / 2 ^ k))) (λ x k. set (byte_bits x) k true) refl
@@ -52,7 +32,7 @@ set_zero = each_place (λ x k. byte_bits (bit_and x (255 - 128 / 2 ^ k))) (λ x 
 
 -- a byte complemented has each bit flipped
 pub byte_flip : (x : ℕ) → x < 256 → byte_bits (255 - x) ≡ map not (byte_bits x)
-byte_flip x h = same_bits_is _ _ (every_at (λ y. same_bits (byte_bits (255 - y)) (map not (byte_bits y))) 256 refl x h)
+byte_flip x h = same_bits_is _ _ (every_at (λ y. pointwise beq (byte_bits (255 - y)) (map not (byte_bits y))) 256 refl x h)
 
 -- the bits of a byte say its number
 pub number_of_bits : (x : ℕ) → x < 256 → number_from 0 (byte_bits x) ≡ x
@@ -72,7 +52,7 @@ every_run_at (suc n) test e (false ∷ bits) l = every_run_at n (λ t. test (fal
 
 -- the number that eight bits say has those bits
 pub bits_of_number : (bits : List Bool) → length bits ≡ 8 → byte_bits (number_from 0 bits) ≡ bits
-bits_of_number bits l = same_bits_is _ _ (every_run_at 8 (λ t. same_bits (byte_bits (number_from 0 t)) t) refl bits l)
+bits_of_number bits l = same_bits_is _ _ (every_run_at 8 (λ t. pointwise beq (byte_bits (number_from 0 t)) t) refl bits l)
 
 pub byte_at : (x k : ℕ) → k < 8 → get_or (byte_bits x) k false ≡ bit_of x k
 byte_at x k h = get_or-map (bit_of x) places k 0 false h ∙ ap (bit_of x) (eqb-true _ _ (every_at (λ j. eqb (get_or places j 0) j) 8 refl k h))

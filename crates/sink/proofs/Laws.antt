@@ -1,10 +1,10 @@
 -- What a sink gains, by its room, and through an inverter.
-use Rattle.std.proofs.Common.{◌≡◌, ℕ, zero, suc, ◌+◌, ◌-◌, ◌<◌, ◌≤◌, Bool, true, false, cond, not, ltb, leb, List, [], ◌∷◌, ◌++◌, map, length, get_or, take, Ok, Err, sym, refl, ap, ◌∙◌, arith}
-use Rattle.std.proofs.lemmas.Bool.{cond_both, leb-true}
+use Rattle.std.proofs.Common.{◌≡◌, ℕ, ◌+◌, ◌<◌, ◌≤◌, Bool, not, List, [], ◌∷◌, ◌++◌, map, length, Ok, Err, sym, refl, ap, ◌∙◌, arith}
+use Rattle.std.proofs.Math.Bool.{not-not}
 use Rattle.std.proofs.lemmas.Bool.Decides.{nat_tests}
-use Rattle.std.proofs.lemmas.List.{map-append, map_push, length-map, length_push, append_assoc, take_more}
+use Rattle.std.proofs.lemmas.List.{map-append, length-map, length_push}
 use Rattle.harq.specs.declared.refusals.Refusal.{Refusal}
-use Rattle.sink.specs.Sink.{answer_at, gained, all_gained, accepted, room_after}
+use Rattle.sink.specs.Sink.{answer_at, gained, all_gained}
 
 -- with room the list gains the bit
 pub gained_room : (n : ℕ) (t : List Bool) (b : Bool) → 0 < n → gained n t b ≡ t ++ (b ∷ [])
@@ -12,68 +12,35 @@ gained_room n t b h = grind (arith, nat_tests)
 
 -- with room at both, two sinks gain the same
 pub gained_same : (m n : ℕ) (t : List Bool) (b : Bool) → 0 < m → 0 < n → gained m t b ≡ gained n t b
-gained_same m n t b h k = gained_room m t b h ∙ sym (gained_room n t b k)
+gained_same m n t b h k = grind (arith, nat_tests)
 
 pub length_gained : (n : ℕ) (t : List Bool) (b : Bool) → 0 < n → length (gained n t b) ≡ length t + 1
-length_gained n t b h = ap length (gained_room n t b h) ∙ length_push t b
+length_gained n t b h = grind (arith, nat_tests, length_push)
 
 -- with room the list gains the whole run
 pub all_gained_room : (n : ℕ) (t bits : List Bool) → length bits ≤ n → all_gained n t bits ≡ t ++ bits
 all_gained_room n t bits h = grind (arith, nat_tests)
 
--- with room the whole run is taken
-pub accepted_room : (n : ℕ) (bits : List Bool) → length bits ≤ n → accepted n bits ≡ bits
-accepted_room n bits h = all_gained_room n [] bits h
-
--- no more is taken than there is room for
-pub accepted_few : (n : ℕ) (bits : List Bool) → length (accepted n bits) ≤ n
-accepted_few n bits = cond_both (leb (length bits) n) bits [] (λ t. length t ≤ n) (leb-true (length bits) n) (λ _. omega arith)
-
--- the room falls by what is taken
-pub room_fallen : (n : ℕ) (bits : List Bool) → room_after n bits ≡ n - length (accepted n bits)
-room_fallen n bits =
-    elim (leb (length bits) n) as (λ v. cond v (n - length bits) n ≡ n - length (cond v bits [])) [ true ↦ refl | false ↦ omega arith ]
-
 -- a bit that was accepted had room
 pub ok_room : (n : ℕ) (u : Unit {0}) → Ok u ≡ answer_at n → 0 < n
-ok_room zero u e = let z : ◌≡◌ {A = ℕ} 0 1 = cc in omega arith
-ok_room (suc n) u e = omega arith
+ok_room n u e = grind (arith, nat_tests)
 
 -- a bit that was refused had none
 pub err_room : (n : ℕ) (e : Refusal) → Err e ≡ answer_at n → n ≡ 0
 err_room n e p = grind (arith, nat_tests)
 
--- a run, one bit on
-pub run_more : (t bits : List Bool) (i : ℕ) (d : Bool) → i < length bits → (t ++ take i bits) ++ (get_or bits i d ∷ []) ≡ t ++ take (i + 1) bits
-run_more t bits i d h = append_assoc t (take i bits) (get_or bits i d ∷ []) ∙ ap (λ x. t ++ x) (sym (take_more bits i d h))
-
-pub not_not : (b : Bool) → not (not b) ≡ b
-not_not true = refl
-not_not false = refl
-
 pub flip_twice : (bits : List Bool) → map not (map not bits) ≡ bits
 flip_twice [] = refl
-flip_twice (b ∷ bits) = ap (λ x. x ∷ map not (map not bits)) (not_not b) ∙ ap (λ t. b ∷ t) (flip_twice bits)
+flip_twice (b ∷ bits) = ap (λ x. x ∷ map not (map not bits)) (not-not b) ∙ ap (λ t. b ∷ t) (flip_twice bits)
 
 -- what a list gained, by what the flipped list gained
 pub flip_back : (after before more : List Bool) → map not after ≡ map not before ++ more → after ≡ before ++ map not more
 flip_back after before more e =
     sym (flip_twice after) ∙ ap (map not) e ∙ map-append not (map not before) more ∙ ap (λ t. t ++ map not more) (flip_twice before)
 
--- the flipped list gains the bit flipped
-pub gained_below : (n : ℕ) (t : List Bool) (b : Bool) → map not (gained n t b) ≡ gained n (map not t) (not b)
-gained_below n t b =
-    elim (ltb 0 n) as (λ v. map not (cond v (t ++ (b ∷ [])) t) ≡ cond v (map not t ++ (not b ∷ [])) (map not t)) [ true ↦ map_push not t b | false ↦ refl ]
-
--- the list above an inverter gains the bit that it was given
-pub gained_flipped : (n : ℕ) (t : List Bool) (b : Bool) → map not (gained n t (not b)) ≡ gained n (map not t) b
-gained_flipped n t b = gained_below n t (not b) ∙ ap (gained n (map not t)) (not_not b)
-
 -- the flipped list gains the run flipped
 pub all_gained_below : (n : ℕ) (t bits : List Bool) → map not (all_gained n t bits) ≡ all_gained n (map not t) (map not bits)
-all_gained_below n t bits =
-    let e = elim (leb (length bits) n) as (λ v. map not (cond v (t ++ bits) t) ≡ cond v (map not t ++ map not bits) (map not t)) [ true ↦ map-append not t bits | false ↦ refl ] in
-    e ∙ ap (λ m. cond (leb m n) (map not t ++ map not bits) (map not t)) (sym (length-map bits not))
+all_gained_below n t bits = grind (arith, nat_tests, map-append, length-map)
 
 -- below an inverter the list gains the run flipped
 pub all_gained_flipped : (n : ℕ) (t t' bits : List Bool) → map not t' ≡ all_gained n (map not t) bits → t' ≡ all_gained n t (map not bits)

@@ -74,7 +74,3 @@ pub bits_determine : BitsDetermine
 bits_determine xs ys hx hy e =
     let l : length xs ≡ length ys = omega (arith, length_bits xs, length_bits ys, ap length e) in
     sym (unpacked_packs xs hx) ∙ ap (bytes_of (length xs)) e ∙ ap (λ n. bytes_of n (bits_of ys)) l ∙ unpacked_packs ys hy
-
--- bytes whose bits are known are packed from them
-pub bytes_by_bits : (bytes : List ℕ) (bits : List Bool) → Bytes bytes → bits_of bytes ≡ bits → bytes ≡ bytes_of (length bytes) bits
-bytes_by_bits bytes bits h e = sym (unpacked_packs bytes h) ∙ ap (bytes_of (length bytes)) e

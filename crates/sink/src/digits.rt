@@ -1,11 +1,11 @@
 // Bits as the digits '0' and '1' in lent bytes.
 ghost use Rattle.std.specs.Prelude.{◌≡◌, [], length};
-ghost use Rattle.sink.specs.Digits.{digit};
 ghost use Rattle.sink.specs.Ends.{text_taken, text_room, TextTook};
 
 use crate::BitSink;
 use harq::Refusal;
 
+// Not one type with `PackedBits`: list, room and memory of each go by another unit, a byte or a bit.
 #[derive(Drop)]
 pub struct TextBits<'a> {
     bytes: &'a mut [u8],
@@ -21,12 +21,6 @@ impl<'a> TextBits<'a> {
     {
         Self { bytes, used: 0 }
     }
-
-    fn free(&self) -> usize
-        ensures { result ≡ text_room self.now }
-    {
-        self.bytes.len().saturating_sub(self.used)
-    }
 }
 
 impl BitSink for TextBits<'_> {
@@ -37,21 +31,17 @@ impl BitSink for TextBits<'_> {
     ghost took = { TextTook };
 
     fn put(&mut self, bit: bool) -> Result<(), Refusal> {
-        if self.free() == 0 {
+        if Self::room_left(self) == 0 {
             return Err(Refusal::Room);
         }
-        self.bytes[self.used] = digit_of(bit);
+        // By index, since a proof knows no element of a slice after its `get_mut`.
+        self.bytes[self.used] = if bit { b'1' } else { b'0' };
         self.used += 1;
         Ok(())
     }
 
+    #[tactic(auto, using(crate::proofs::Writing::written_none))]
     fn room_left(&self) -> usize {
-        self.free()
+        self.bytes.len().saturating_sub(self.used)
     }
-}
-
-fn digit_of(bit: bool) -> u8
-    ensures { result ≡ digit bit }
-{
-    if bit { b'1' } else { b'0' }
 }

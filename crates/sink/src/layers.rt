@@ -33,19 +33,12 @@ impl<S: BitSink> BitSink for Inverter<S> {
     ghost took = { λ s bits t. S.BitSink.took s.below (map not bits) t.below };
 
     fn put(&mut self, bit: bool) -> Result<(), Refusal> {
-        self.below.put(flipped(bit))
+        self.below.put(!bit)
     }
 
     fn room_left(&self) -> usize {
         self.below.room_left()
     }
-}
-
-// The bit as the sink below takes it.
-fn flipped(bit: bool) -> bool
-    ensures { result ≡ not bit }
-{
-    !bit
 }
 
 // Passes at most `left` more bits down.
@@ -79,6 +72,7 @@ impl<S: BitSink> BitSink for Quota<S> {
     // The least of two does not tell what became of each: both fell by as many bits as were taken.
     ghost took = { λ s bits t. S.BitSink.took s.below bits t.below × (S.BitSink.room t.below ≡ S.BitSink.room s.below - length bits) × (t.left ≡ s.left - length bits) };
 
+    #[tactic(auto, using(crate::proofs::Laws::gained_same, crate::proofs::Laws::length_gained, crate::proofs::Laws::ok_room, crate::proofs::Laws::err_room))]
     fn put(&mut self, bit: bool) -> Result<(), Refusal> {
         if self.left == 0 {
             return Err(Refusal::Room);

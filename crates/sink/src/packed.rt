@@ -6,7 +6,7 @@ ghost use Rattle.sink.specs.Ends.{capacity, packed_taken, packed_room, PackedToo
 use crate::BitSink;
 use harq::Refusal;
 
-// Only the first 65,536 bytes count; every bit that was not put stays.
+// The lent bytes, and how many of their bits are used: contracts name both. Only the first 65,536 bytes count; every bit that was not put stays.
 #[derive(Drop)]
 pub struct PackedBits<'a> {
     bytes: &'a mut [u8],
@@ -22,12 +22,6 @@ impl<'a> PackedBits<'a> {
     {
         Self { bytes, used: 0 }
     }
-
-    fn free(&self) -> usize
-        ensures { result ≡ packed_room self.now }
-    {
-        (8 * self.bytes.len().min(65536)).saturating_sub(self.used)
-    }
 }
 
 impl BitSink for PackedBits<'_> {
@@ -38,17 +32,17 @@ impl BitSink for PackedBits<'_> {
     ghost took = { PackedTook };
 
     fn put(&mut self, bit: bool) -> Result<(), Refusal> {
-        if self.free() == 0 {
+        if Self::room_left(self) == 0 {
             return Err(Refusal::Room);
         }
-        let index = self.used;
-        set_bit(self.bytes, index, bit);
-        self.used = index + 1;
+        set_bit(self.bytes, self.used, bit);
+        self.used += 1;
         Ok(())
     }
 
+    #[tactic(auto, using(crate::proofs::Writing::written_none))]
     fn room_left(&self) -> usize {
-        self.free()
+        (8 * self.bytes.len().min(65536)).saturating_sub(self.used)
     }
 }
 
@@ -61,6 +55,7 @@ fn mask(k: usize) -> u8
 }
 
 // The byte with its bit k as given.
+#[tactic(auto, using(crate::proofs::Bytes::set_one, crate::proofs::Bytes::set_zero))]
 fn with_bit(byte: u8, k: usize, bit: bool) -> u8
     requires { k < 8 }
     ensures { byte_bits result ≡ slice_set (byte_bits byte) k bit }
@@ -70,10 +65,12 @@ fn with_bit(byte: u8, k: usize, bit: bool) -> u8
 }
 
 // Sets the bit at that index of packed bytes alone; false where there is none.
+#[tactic(auto, using(crate::proofs::Packing::bits_set, crate::proofs::Packing::length_bits, std::proofs::lemmas::List::set_past))]
 pub fn set_bit(bytes: &mut [u8], index: usize, bit: bool) -> bool
     ensures found { result ≡ nat_lt index (8 * length bytes.old) }
     ensures bits { bits_of bytes.new ≡ slice_set (bits_of bytes.old) index bit }
 {
+    // By index, since a proof knows no element of a slice after its `get_mut`.
     if index / 8 >= bytes.len() {
         return false;
     }
@@ -90,11 +87,10 @@ fn bit_in(byte: u8, k: usize) -> bool
 }
 
 // The bit at that index of packed bytes, none past the end.
+#[tactic(auto, using(crate::proofs::Packing::bit_at))]
 pub fn bit_at(bytes: &[u8], index: usize) -> Option<bool>
     ensures { result ≡ bit_read bytes.now index }
 {
-    if index / 8 >= bytes.len() {
-        return None;
-    }
-    Some(bit_in(bytes[index / 8], index % 8))
+    let byte = bytes.get(index / 8)?;
+    Some(bit_in(*byte, index % 8))
 }

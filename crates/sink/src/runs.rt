@@ -24,13 +24,14 @@ pub fn put_all<S: BitSink>(bits: &[bool], sink: &mut S) -> Result<usize, Refusal
     if S::room_left(sink) < bits.len() {
         return Err(Refusal::Room);
     }
-    for bit in bits {
-        sink.put(*bit)?;
+    for &bit in bits {
+        sink.put(bit)?;
     }
     Ok(bits.len())
 }
 
-// Puts all the bits, each flipped, or nothing.
+// Puts all the bits, each flipped, or nothing. Over any sink, since a proof knows nothing of lent bytes after an inverter that holds them.
+#[tactic(auto, using(crate::proofs::Laws::all_gained_below, crate::proofs::Laws::all_gained_flipped))]
 fn put_inverted<S: BitSink>(bits: &[bool], sink: &mut S) -> Result<usize, Refusal>
     ensures answer { result ≡ all_answer (S.room sink.old) bits.now }
     ensures list { S.taken sink.new ≡ all_gained (S.room sink.old) (S.taken sink.old) (map not bits.now) }
@@ -38,8 +39,7 @@ fn put_inverted<S: BitSink>(bits: &[bool], sink: &mut S) -> Result<usize, Refusa
     ensures took { S.took sink.old (accepted (S.room sink.old) (map not bits.now)) sink.new }
     ensures kept { S.room sink.old < length bits.now → sink.new ≡ sink.old }
 {
-    let mut inverter = Inverter::new(sink);
-    put_all(bits, &mut inverter)
+    put_all(bits, &mut Inverter::new(sink))
 }
 
 // Packs the bits into the front of the bytes, or nothing.
@@ -47,8 +47,7 @@ pub fn pack(bits: &[bool], bytes: &mut [u8]) -> Result<usize, Refusal>
     ensures answer { result ≡ all_answer (capacity (length bytes.old)) bits.now }
     ensures bytes { bits_of bytes.new ≡ written (bits_of bytes.old) 0 (accepted (capacity (length bytes.old)) bits.now) }
 {
-    let mut packed = PackedBits::new(bytes);
-    put_all(bits, &mut packed)
+    put_all(bits, &mut PackedBits::new(bytes))
 }
 
 // Packs the bits, each flipped, into the front of the bytes, or nothing.
@@ -56,8 +55,7 @@ pub fn pack_inverted(bits: &[bool], bytes: &mut [u8]) -> Result<usize, Refusal>
     ensures answer { result ≡ all_answer (capacity (length bytes.old)) bits.now }
     ensures bytes { bits_of bytes.new ≡ written (bits_of bytes.old) 0 (accepted (capacity (length bytes.old)) (map not bits.now)) }
 {
-    let mut packed = PackedBits::new(bytes);
-    put_inverted(bits, &mut packed)
+    put_inverted(bits, &mut PackedBits::new(bytes))
 }
 
 // Writes the bits as digits into the front of the bytes, or nothing.
@@ -65,6 +63,5 @@ pub fn text(bits: &[bool], bytes: &mut [u8]) -> Result<usize, Refusal>
     ensures answer { result ≡ all_answer (length bytes.old) bits.now }
     ensures bytes { bytes.new ≡ written bytes.old 0 (map digit (accepted (length bytes.old) bits.now)) }
 {
-    let mut digits = TextBits::new(bytes);
-    put_all(bits, &mut digits)
+    put_all(bits, &mut TextBits::new(bytes))
 }

@@ -2,6 +2,7 @@
 ghost use Rattle.sink.specs.Claims.{PackedUnpacks, UnpackedPacks, BitsDetermine, WrittenReads, PackedReads, DigitSays, SaidDigit, TextReads};
 
 // Packing and unpacking undo each other, and bits determine their bytes.
+#[tactic(auto, using(crate::proofs::Packing::packed_unpacks, crate::proofs::Packing::unpacked_packs, crate::proofs::Packing::bits_determine))]
 pub fn packing_inverts()
     ensures unpacks { PackedUnpacks }
     ensures packs { UnpackedPacks }
@@ -14,6 +15,7 @@ pub fn written_reads<E>()
 {}
 
 // A packed sink's bytes, bit by bit.
+#[tactic(auto, using(crate::proofs::Reading::packed_reads))]
 pub fn packed_reads()
     ensures { PackedReads }
 {}
