@@ -5,31 +5,31 @@ ghost use Rattle.harq.specs.Refusals.{number_of};
 #[derive(Clone, Copy, Debug, PartialEq, Eq)]
 pub enum Refusal {
     // The configuration is out of limits.
-    Configuration,
+    Configuration = 1,
     // A cell or an occasion is out of range.
-    Range,
+    Range = 2,
     // The order is not strictly rising.
-    Order,
+    Order = 3,
     // The format is unknown or barred, or its DAI field too wide.
-    Field,
+    Field = 4,
     // The block count or an outcome is out of limits.
-    Blocks,
+    Blocks = 5,
     // Totals differ in one occasion.
-    Totals,
+    Totals = 6,
     // The SPS list is out of limits or order.
-    Sps,
+    Sps = 7,
     // The report is longer than a PUCCH carries.
-    Length,
+    Length = 8,
     // The sink's room is too small.
-    Room,
+    Room = 9,
     // A grant before its cell's first counted occasion.
-    Early,
+    Early = 10,
     // The trace is broken.
-    Trace,
+    Trace = 11,
     // A lent table is too short.
-    Table,
+    Table = 12,
     // A grant's place is past the report.
-    Place,
+    Place = 13,
 }
 
 impl Refusal {
@@ -37,20 +37,6 @@ impl Refusal {
     pub fn number(self) -> u32
         ensures { result ≡ number_of self }
     {
-        match self {
-            Refusal::Configuration => 1,
-            Refusal::Range => 2,
-            Refusal::Order => 3,
-            Refusal::Field => 4,
-            Refusal::Blocks => 5,
-            Refusal::Totals => 6,
-            Refusal::Sps => 7,
-            Refusal::Length => 8,
-            Refusal::Room => 9,
-            Refusal::Early => 10,
-            Refusal::Trace => 11,
-            Refusal::Table => 12,
-            Refusal::Place => 13,
-        }
+        self as u32
     }
 }
