@@ -4,7 +4,7 @@ use Rattle.std.specs.List.{list_all}
 use Rattle.dai.specs.declared.Layout.{Layout}
 use Rattle.dai.specs.declared.Layout.TheVariants.{One, Two, Four}
 use Rattle.dai.specs.Fields.{has_total, reading}
-use Rattle.harq.specs.Words.{with_some}
+use Rattle.std.specs.Option.{option_and_then}
 use Rattle.harq.specs.declared.configs.Config.{Config}
 
 -- the first occasion that counts on a cell
@@ -64,7 +64,7 @@ carries_total g format = total_there (layout_of g format)
 
 -- the counter and the total of a field, or none where the format is barred or the field too wide
 abbrev pub read_dai : Config → ℕ → ℕ → Option (ℕ × Option ℕ)
-read_dai g format field = with_some (layout_of g format) (λ l. reading l field)
+read_dai g format field = option_and_then (λ l. reading l field) (layout_of g format)
 
 -- a block count that the mode has
 abbrev pub blocks_within : Config → ℕ → Bool

@@ -1,7 +1,12 @@
 -- Words for lists and answers; some are the library's by other names. Assumes nothing.
-use Rattle.std.specs.Prelude.{Bool, cond, List, [], ◌∷◌, Some, None, Ok, Err, Option, Result}
-pub use Rattle.std.specs.List.{list_all as every, filter as those, flat_map as all_of, range_with_len as counting_from}
+use Rattle.std.specs.Prelude.{flat_map, Bool, cond, List, [], ◌∷◌, Some, None, Ok, Err, Option, Result}
+pub use Rattle.std.specs.List.{list_all as every, filter as those, range_with_len as counting_from}
+use Rattle.std.specs.Option.{option_and_then}
 pub use Rattle.std.specs.Option.{option_or as or_else}
+
+-- what f gives at each element, one behind the other
+abbrev pub all_of : {X Y : Type 0} → (X → List Y) → List X → List Y
+all_of = flat_map
 
 -- the last element, or d where there is none
 abbrev pub last_or : {X : Type 0} → X → List X → X
@@ -10,8 +15,7 @@ last_or d (x ∷ xs) = last_or x xs
 
 -- go on with what is there
 abbrev pub with_some : {X Y : Type 0} → Option X → (X → Option Y) → Option Y
-with_some None f = None
-with_some (Some x) f = f x
+with_some o f = option_and_then f o
 
 -- go on with what was answered, or pass the refusal up
 abbrev pub onward : {X Y E : Type 0} → Result X E → (X → Result Y E) → Result Y E

@@ -6,7 +6,7 @@ use crate::formats::Format;
 use crate::modes::Mode;
 use dai::Layout;
 
-// Entries of `first` from `cells` on are not looked at.
+// The numbers are as given, within limits or not: a card answers those that are not by a refusal's number.
 #[derive(Clone, Copy, Debug, Default, PartialEq, Eq)]
 pub struct Config {
     // Cells, numbered from 0.
@@ -15,9 +15,9 @@ pub struct Config {
     pub occasions: u32,
     // Width in bits of format 1_2's DAI field; 0 bars the format.
     pub width: u32,
-    // 0: one block for each assignment; 1: two blocks; 2: two, bundled.
+    // The number of a `Mode`.
     pub mode: u32,
-    // Per cell the first occasion that counts after a bandwidth part change.
+    // Per cell the first occasion that counts after a bandwidth part change; from `cells` on not looked at.
     pub first: [u32; 16],
 }
 
@@ -78,7 +78,7 @@ impl Config {
             Format::OneTwo => layout_wide(self.width),
             _ if self.width == 1 => None,
             Format::OneOne if 1 < self.cells => Some(Layout::Four),
-            _ => Some(Layout::Two),
+            Format::OneZero | Format::OneOne => Some(Layout::Two),
         }
     }
 

@@ -6,7 +6,8 @@ ghost use Rattle.harq.specs.Placers.{fresh, placer_after, turns_of, advanced, pl
 
 use crate::refusals::Refusal;
 
-// How far placing has come: the span of the counter, its turns so far, and the counter before (0: none).
+// How far placing has come: the span of the counter, its turns so far, and the counter before.
+// Before the first, that is 0: counters begin at 1, so 0 needs no case of its own.
 #[derive(Clone, Copy, Debug, PartialEq, Eq)]
 pub struct Placer {
     span: u32,
@@ -87,6 +88,7 @@ impl Placer {
         if at >= slots.len() {
             return Err(Refusal::Table);
         }
+        // By index: of a slice's `get_mut` a proof keeps no element.
         slots[at] = entry;
         self.advance(counter);
         Ok(())
