@@ -8,7 +8,7 @@ use Rattle.harq.specs.SpsLists.{entry_fits, unfit_from}
 module _ {X : Type 0} (listed : X → SpsEntry) (sound : X → Bool) (g : Config) where
   few_rest : (b : Bool) (i n : ℕ) (o : Option ℕ) → cond b o (Some i) ≡ None → (b ≡ true → o ≡ None → n ≤ 64) → n ≤ 64
   few_rest true i n o e h = h refl e
-  few_rest false i n o e h = let z : ◌≡◌ {A = ℕ} 0 1 = cc in absurd (omega arith)
+  few_rest false i n o e h = absurd cc
 
   pub fit_few : (xs : List X) (i : ℕ) (previous : Option SpsEntry) → i ≤ 64 → unfit_from listed sound g i previous xs ≡ None → i + length xs ≤ 64
   fit_few [] i previous h e = omega arith

@@ -1,6 +1,6 @@
 // The configuration that UE and gNB share.
-ghost use Rattle.std.specs.Prelude.{◌≡◌, Bool, nat_le, slice_index};
-ghost use Rattle.harq.specs.Configs.{first_counted, numbers_within, config_within, span, bits_per_place, layout_wide, layout_of, read_dai, blocks_within, in_range, counts};
+ghost use Rattle.std.specs.Prelude.{◌≡◌};
+ghost use Rattle.harq.specs.Configs.{numbers_within, config_within, span, bits_per_place, layout_wide, layout_of, read_dai, blocks_within, in_range, counts};
 
 use crate::formats::Format;
 use crate::modes::Mode;

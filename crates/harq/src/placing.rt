@@ -1,8 +1,8 @@
 // Placing by the counter DAI: one text for every kind of entry.
-ghost use Rattle.std.specs.Prelude.{◌≡◌, ◌+◌, cond, min, length, if◌then◌else◌, nat_lt, slice_set};
+ghost use Rattle.std.specs.Prelude.{◌≡◌, length, if◌then◌else◌, nat_lt, slice_set};
 ghost use Rattle.harq.specs.Agreement.{CountsAgree};
 ghost use Rattle.harq.specs.PlacingLaws.{PlacingStands, NothingLost, SlotsHold};
-ghost use Rattle.harq.specs.Placers.{fresh, placer_after, turns_of, advanced, place_at, place_answer, slots_at};
+ghost use Rattle.harq.specs.Placers.{fresh, placer_after, turns_if, turns_of, advanced, place_at, place_answer, slots_at};
 
 use crate::refusals::Refusal;
 
@@ -50,7 +50,7 @@ impl Placer {
 
     // The turns, one more where the counter has come round; they stop at the largest number.
     fn turns_if(&self, round: bool) -> u32
-        ensures { result ≡ cond round (min (self.now.turns + 1) 4294967295) self.now.turns }
+        ensures { result ≡ turns_if self.now round }
     {
         self.turns.saturating_add(u32::from(round))
     }

@@ -1,6 +1,9 @@
 // Why a call is declined.
-ghost use Rattle.std.specs.Prelude.{◌≡◌};
-ghost use Rattle.harq.specs.Refusals.{number_of};
+ghost use Rattle.std.specs.Prelude.{◌≡◌, Some};
+ghost use Rattle.harq.specs.Refusals.{number_of, reason_of};
+
+use std::error::Error;
+use std::fmt;
 
 #[derive(Clone, Copy, Debug, PartialEq, Eq)]
 pub enum Refusal {
@@ -40,3 +43,27 @@ impl Refusal {
         self as u32
     }
 }
+
+impl fmt::Display for Refusal {
+    ghost output = { λ r. Some (reason_of r) };
+
+    fn fmt<W: fmt::Write>(&self, f: &mut fmt::Formatter<W>) -> fmt::Result {
+        f.write_str(match self {
+            Refusal::Configuration => "configuration out of limits",
+            Refusal::Range => "cell or occasion out of range",
+            Refusal::Order => "order not strictly rising",
+            Refusal::Field => "format barred",
+            Refusal::Blocks => "block count or outcome out of limits",
+            Refusal::Totals => "totals differ in one occasion",
+            Refusal::Sps => "SPS list out of limits or order",
+            Refusal::Length => "report too long",
+            Refusal::Room => "no room for the report",
+            Refusal::Early => "grant before its cell's first counted occasion",
+            Refusal::Trace => "trace broken",
+            Refusal::Table => "grant table too short",
+            Refusal::Place => "place past the report",
+        })
+    }
+}
+
+impl Error for Refusal {}

@@ -1,10 +1,11 @@
 // The SPS list: semi-persistent PDSCH receptions, which the report answers without an assignment.
-ghost use Rattle.std.specs.Prelude.{◌≡◌, Bool, true, ◌&&◌, Some, None};
+ghost use Rattle.std.specs.Prelude.{◌≡◌, Bool, true, None};
 ghost use Rattle.harq.specs.declared.sps.SpsEntry.{SpsEntry};
 ghost use Rattle.harq.specs.SpsLists.{entry_within, entry_above, entry_fits, unfit_from};
 
 use crate::configs::Config;
 
+// Ordered by cell, configuration and slot.
 #[derive(Clone, Copy, Debug, Default, PartialEq, Eq, PartialOrd, Ord)]
 pub struct SpsEntry {
     pub cell: u32,
