@@ -70,7 +70,7 @@ impl Config {
         }
     }
 
-    // The DAI layout of a format, or none where the format is barred.
+    // The DAI layout of the format of a number, or none where there is no such format or it is barred.
     pub fn layout(&self, format: u32) -> Option<Layout>
         ensures { result ≡ layout_of self.now format }
     {

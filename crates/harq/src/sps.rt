@@ -20,6 +20,7 @@ impl SpsEntry {
         self.cell < config.cells && self.configuration <= 7 && self.slot <= 255
     }
 
+    // None lies below each entry.
     fn is_above(&self, previous: Option<SpsEntry>) -> bool
         ensures { result ≡ entry_above previous self.now }
     {
