@@ -7,21 +7,15 @@ ghost use Rattle.ue.specs.Checks.{config_judged, arrivals_judged, sps_judged, si
 
 use crate::arrivals::{Arrival, SpsOutcome};
 use crate::declines::{Decline, Part};
+use crate::reports::LONGEST_REPORT;
 use crate::walks::{Known, Walk};
 use harq::sps::first_unfit;
 use harq::{Config, Placer, Refusal};
 
-// The longest report that a PUCCH carries, in bits.
-const LONGEST: usize = 1706;
-
 fn is_above(last: Option<(u32, u32)>, a: &Arrival) -> bool
     ensures { result ≡ above last a.now }
 {
-    match last {
-        None => true,
-        Some((occasion, cell)) => occasion < a.occasion
-            || (occasion == a.occasion && cell < a.cell),
-    }
+    last < Some((a.occasion, a.cell))
 }
 
 // The block count, and each outcome that the arrival brings.
@@ -36,19 +30,15 @@ fn is_brought(config: &Config, a: &Arrival) -> bool
 fn known_total(known: Option<Known>, occasion: u32) -> Option<u32>
     ensures { result ≡ known_total known occasion }
 {
-    match known {
-        Some(k) if k.occasion == occasion => k.total,
-        _ => None,
-    }
+    known.filter(|k| k.occasion == occasion)?.total
 }
 
 fn join(known: Option<u32>, total: Option<u32>) -> Option<Option<u32>>
     ensures { result ≡ joined known total }
 {
     match (known, total) {
-        (None, t) => Some(t),
-        (Some(u), None) => Some(Some(u)),
-        (Some(u), Some(t)) => if u == t { Some(Some(u)) } else { None },
+        (Some(u), Some(t)) if u != t => None,
+        _ => Some(known.or(total)),
     }
 }
 
@@ -65,9 +55,7 @@ fn check_arrival(config: &Config, s: Walk, a: &Arrival) -> Result<Walk, Refusal>
     if !is_above(s.last, a) {
         return Err(Refusal::Order);
     }
-    let Some((counter, total)) = config.read_dai(a.format, a.field) else {
-        return Err(Refusal::Field);
-    };
+    let (counter, total) = config.read_dai(a.format, a.field).ok_or(Refusal::Field)?;
     if !is_brought(config, a) {
         return Err(Refusal::Blocks);
     }
@@ -75,9 +63,7 @@ fn check_arrival(config: &Config, s: Walk, a: &Arrival) -> Result<Walk, Refusal>
     if !config.counts(a.cell, a.occasion) {
         return Ok(Walk { last, ..s });
     }
-    let Some(total) = join(known_total(s.known, a.occasion), total) else {
-        return Err(Refusal::Totals);
-    };
+    let total = join(known_total(s.known, a.occasion), total).ok_or(Refusal::Totals)?;
     let known = Some(Known {
         occasion: a.occasion,
         total,
@@ -162,10 +148,7 @@ fn check_config(config: &Config) -> Result<(), Decline>
     ensures within { OnOk result ((config.now.cells ≤ 16) × (config.now.occasions ≤ 32)) }
 {
     if !config.is_within() {
-        return Err(Decline {
-            refusal: Refusal::Configuration,
-            part: Part::Configuration,
-        });
+        return Err(Decline::new(Refusal::Configuration, Part::Configuration));
     }
     Ok(())
 }
@@ -176,10 +159,7 @@ fn check_sps(config: &Config, sps: &[SpsOutcome]) -> Result<(), Decline>
 {
     match first_unfit(config, sps) {
         None => Ok(()),
-        Some(i) => Err(Decline {
-            refusal: Refusal::Sps,
-            part: Part::Sps(i),
-        }),
+        Some(i) => Err(Decline::new(Refusal::Sps, Part::Sps(i))),
     }
 }
 
@@ -196,24 +176,14 @@ fn check_size(
     ensures short { OnOk result (length_of config.now slots sps ≤ 1706) }
 {
     let length = config.bits_per_place() * slots + sps;
-    let part = Part::Whole;
-    if length > LONGEST {
-        return Err(Decline {
-            refusal: Refusal::Length,
-            part,
-        });
+    if length > LONGEST_REPORT {
+        return Err(Decline::new(Refusal::Length, Part::Whole));
     }
     if lent < slots {
-        return Err(Decline {
-            refusal: Refusal::Table,
-            part,
-        });
+        return Err(Decline::new(Refusal::Table, Part::Whole));
     }
     if room < length {
-        return Err(Decline {
-            refusal: Refusal::Room,
-            part,
-        });
+        return Err(Decline::new(Refusal::Room, Part::Whole));
     }
     Ok(())
 }

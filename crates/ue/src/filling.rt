@@ -14,19 +14,16 @@ pub(crate) fn fill_nack(slots: &mut [Slot], count: usize)
     requires { count ≤ length slots.old }
     ensures { slots.new ≡ filled count slots.old }
 {
-    for i in 0..count {
-        slots[i] = Slot::One(false);
-    }
+    slots[0..count].fill(Slot::One(false));
 }
 
 // The counter of an arrival, whose field has been judged.
 fn counter_of(config: &Config, a: &Arrival) -> u32
     ensures { result ≡ counter config.now a.now }
 {
-    match config.read_dai(a.format, a.field) {
-        Some((counter, _)) => counter,
-        None => 0,
-    }
+    config
+        .read_dai(a.format, a.field)
+        .map_or(0, |(counter, _)| counter)
 }
 
 // Writes the outcomes of an arrival at its place, if it counts.

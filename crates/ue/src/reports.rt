@@ -14,6 +14,9 @@ use crate::slots::Slot;
 use harq::{Config, Refusal};
 use sink::BitSink;
 
+// The longest report that a PUCCH carries, in bits.
+pub const LONGEST_REPORT: usize = 1706;
+
 // The report of a batch that has been judged, with that many slots.
 fn write_report<S: BitSink>(
     config: &Config,
@@ -68,8 +71,5 @@ pub fn report<S: BitSink>(
     ensures kept { is_ok result ≡ false → sink.new ≡ sink.old }
     ensures clause { OnOk result (ReportFor config.now arrivals.now sps.now (drop (length (S.taken sink.old)) (S.taken sink.new))) }
 {
-    match report_located(config, arrivals, sps, slots, sink) {
-        Ok(length) => Ok(length),
-        Err(decline) => Err(decline.refusal),
-    }
+    Ok(report_located(config, arrivals, sps, slots, sink)?)
 }
