@@ -62,7 +62,7 @@ module _ (g : Config) where
   go_passing rest earlier a ih None p q = (passed earlier a p, ih q)
   go_passing rest earlier a ih (Some e) p q = let z : ◌≡◌ {A = ℕ} 0 1 = cc in absurd (omega arith)
 
-  passing : (xs earlier : List Arrival) → first_refused g earlier xs ≡ None → Passing g earlier xs
+  pub passing : (xs earlier : List Arrival) → first_refused g earlier xs ≡ None → Passing g earlier xs
   passing [] earlier e = tt
   passing (a ∷ rest) earlier e = go_passing rest earlier a (passing rest (earlier ++ a ∷ [])) (arrival_refused g earlier a) refl e
 
@@ -165,7 +165,7 @@ onward_ok (Ok x) f y e = (x, (refl, e))
 onward_ok (Err d) f y e = let z : ◌≡◌ {A = ℕ} 0 1 = cc in absurd (omega arith)
 
 -- a check that must hold, and one that must not
-held_ok : {X E : Type 0} (b : Bool) (r : Result X E) (d : E) (x : X) → cond b r (Err d) ≡ Ok x → b ≡ true
+pub held_ok : {X E : Type 0} (b : Bool) (r : Result X E) (d : E) (x : X) → cond b r (Err d) ≡ Ok x → b ≡ true
 held_ok true r d x e = refl
 held_ok false r d x e = let z : ◌≡◌ {A = ℕ} 0 1 = cc in absurd (omega arith)
 

@@ -1,8 +1,8 @@
-pub mod Walking
 pub mod Walked
 pub mod Pieces
 pub mod Fields
 pub mod Accepted
+pub mod Few
 pub mod Loops
 pub mod Clause
 pub mod Fills

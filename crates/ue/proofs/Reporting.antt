@@ -14,10 +14,11 @@ use Rattle.ue.specs.Checks.{judged, length_of}
 use Rattle.ue.specs.Fillings.{filled, placed_by}
 use Rattle.ue.specs.Reports.{held, report_bits, report_answer}
 use Rattle.ue.proofs.Accepted.{Accepted, accepted, rising, below_slots, length_held, length_slot_bits, length_report}
+use Rattle.ue.proofs.Few.{few_accepted}
 use Rattle.ue.proofs.Placings.{placed_held}
 
 module _ (g : Config) (arrivals : List Arrival) (sps : List SpsOutcome) (slots : List Slot) (room n : ℕ)
-    (e : judged g arrivals sps (length slots) room ≡ Ok n) (few : length arrivals ≤ 512) where
+    (e : judged g arrivals sps (length slots) room ≡ Ok n) where
   a : Accepted g arrivals sps (length slots) room n
   a = accepted g arrivals sps (length slots) room n e
 
@@ -25,7 +26,7 @@ module _ (g : Config) (arrivals : List Arrival) (sps : List SpsOutcome) (slots :
   lent_enough = a.lends
 
   pub slots_written : placed_by g (fresh (span g)) arrivals (filled n slots) ≡ held g arrivals ++ drop n slots
-  slots_written = placed_held g arrivals slots n few a.slots a.lends (rising g arrivals n a.passes) (below_slots g arrivals n a.passes)
+  slots_written = placed_held g arrivals slots n (few_accepted g a.config arrivals n a.passes) a.slots a.lends (rising g arrivals n a.passes) (below_slots g arrivals n a.passes)
 
   long : length (held g arrivals) ≡ n
   long = length_held g arrivals ∙ sym a.slots

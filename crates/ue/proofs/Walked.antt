@@ -1,5 +1,5 @@
 -- The walk over the arrivals judges them as the checks say. Assumes nothing.
-use Rattle.std.proofs.Common.{◌≡◌, ℕ, suc, ◌+◌, ◌<◌, ◌≤◌, Bool, true, false, cond, not, ◌&&◌, eqb, List, [], ◌∷◌, ◌++◌, map, length, is_some, IfOk, Some, None, Ok, Err, fold, Option, Result, unwrap_or, sym, refl, ap, ◌∙◌, subst, ⊎_elim, append-nil, arith}
+use Rattle.std.proofs.Common.{◌≡◌, ℕ, suc, ◌+◌, ◌<◌, ◌≤◌, Bool, true, false, cond, not, ◌&&◌, eqb, List, [], ◌∷◌, ◌++◌, map, length, is_some, Some, None, Ok, Err, fold, Option, Result, unwrap_or, sym, refl, ap, ◌∙◌, subst, ⊎_elim, append-nil, arith}
 use Rattle.std.specs.List.{AllByRecursion}
 use Rattle.std.proofs.ByRecursion.{All-push, All-weaker}
 use Rattle.std.proofs.lemmas.List.{append_assoc, length_push, map_push, length-map}
@@ -48,7 +48,7 @@ last_of_push [] a = refl
 last_of_push (x ∷ xs) a = ap Some (last_or_push x xs a)
 
 -- the pair of an arrival
-abbrev pair : Option Arrival → Option (ℕ × ℕ)
+abbrev pub pair : Option Arrival → Option (ℕ × ℕ)
 pair None = None
 pair (Some a) = Some (a.occasion, a.cell)
 
@@ -297,8 +297,8 @@ walked_slots g all s w few = slots_known g (counted g all) s w.known w.placer_is
 
 -- the walk, and the slot count behind it, are what the checks say
 pub judged_by : (g : Config) (all : List Arrival) (o : Option (ℕ × Refusal)) (r : Result Walk Decline) → Ends g all o r →
-    IfOk r (λ _. length all ≤ 512) → onward r (λ t. Ok (slots_after t)) ≡ slots_or (slots_in g all) o
-judged_by g all None (Ok t) w few = ap Ok (walked_slots g all t w few)
+    (o ≡ None → length all ≤ 512) → onward r (λ t. Ok (slots_after t)) ≡ slots_or (slots_in g all) o
+judged_by g all None (Ok t) w few = ap Ok (walked_slots g all t w (few refl))
 judged_by g all None (Err d) w few = absurd w
 judged_by g all (Some p) (Ok t) w few = absurd w
 judged_by g all (Some p) (Err d) w few = w (slots_in g all)

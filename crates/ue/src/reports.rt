@@ -26,8 +26,7 @@ fn write_report<S: BitSink>(
     count: usize,
     sink: &mut S,
 )
-    requires judged { judged config.now arrivals.now sps.now (length slots.old) (S.room sink.old) ≡ Ok count }
-    requires few { length arrivals.now ≤ 512 }
+    requires { judged config.now arrivals.now sps.now (length slots.old) (S.room sink.old) ≡ Ok count }
     ensures slots { slots.new ≡ held config.now arrivals.now ++ drop count slots.old }
     ensures gains { Gains S.taken S.room S.took sink.old (report_bits config.now arrivals.now sps.now) sink.new }
 {

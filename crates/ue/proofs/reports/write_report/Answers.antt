@@ -12,16 +12,16 @@ use Rattle.ue.proofs.reports.write_report.Goals as goal
 pub put_sps-requires : goal.put_sps-requires
 put_sps-requires g c =
     let q = c.args.config.now in
-    let written = c.place_all.ensures ∙ ap (placed_by q (fresh (span q)) c.args.arrivals.now) c.fill_nack.ensures ∙ slots_written q _ _ _ _ _ c.requires.judged c.requires.few in
-    omega (arith, c.put_places.ensures.left, bits_long q _ _ _ _ _ c.requires.judged c.requires.few _ written, room_enough q _ _ _ _ _ c.requires.judged c.requires.few)
+    let written = c.place_all.ensures ∙ ap (placed_by q (fresh (span q)) c.args.arrivals.now) c.fill_nack.ensures ∙ slots_written q _ _ _ _ _ c.requires in
+    omega (arith, c.put_places.ensures.left, bits_long q _ _ _ _ _ c.requires _ written, room_enough q _ _ _ _ _ c.requires)
 
 pub returns : goal.returns
 returns g c =
     let q = c.args.config.now in
-    let written = c.place_all.ensures ∙ ap (placed_by q (fresh (span q)) c.args.arrivals.now) c.fill_nack.ensures ∙ slots_written q _ _ _ _ _ c.requires.judged c.requires.few in
+    let written = c.place_all.ensures ∙ ap (placed_by q (fresh (span q)) c.args.arrivals.now) c.fill_nack.ensures ∙ slots_written q _ _ _ _ _ c.requires in
     record {
       slots = written;
       gains =
           gains_both g.S.BitSink.taken g.S.BitSink.room g.S.BitSink.took _ _ _ _ _ _ c.put_places.ensures c.put_sps.ensures
-          (ap (λ l. all_of (place_bits q.mode) l ++ map sps_bit c.args.sps.now) (places_read q _ _ _ _ _ c.requires.judged c.requires.few _ written));
+          (ap (λ l. all_of (place_bits q.mode) l ++ map sps_bit c.args.sps.now) (places_read q _ _ _ _ _ c.requires _ written));
     }
