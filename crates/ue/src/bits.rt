@@ -8,7 +8,7 @@ ghost use Rattle.ue.specs.Reports.{sps_bit};
 
 use crate::arrivals::SpsOutcome;
 use crate::slots::Slot;
-use harq::Config;
+use harq::{Config, Mode};
 use sink::BitSink;
 
 // One bit, for which there is room.
@@ -25,7 +25,7 @@ fn put_place<S: BitSink>(config: &Config, slot: Slot, sink: &mut S)
     ensures { Gains S.taken S.room S.took sink.old (place_bits config.now.mode slot) sink.new }
 {
     put_bit(slot.first_bit(config.mode), sink);
-    if config.mode == 1 {
+    if Mode::try_from(config.mode) == Ok(Mode::TwoBlocks) {
         put_bit(slot.second_bit(), sink);
     }
 }

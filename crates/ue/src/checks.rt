@@ -10,23 +10,14 @@ use crate::walks::Walker;
 use harq::sps::first_unfit;
 use harq::{Config, Refusal};
 
-// The configuration and the arrivals are judged: how many slots they take.
-fn count_slots(config: &Config, arrivals: &[Arrival]) -> Result<usize, Decline>
-    ensures is { result ≡ onward (config_judged config.now) (λ _. arrivals_judged config.now arrivals.now) }
-    ensures small { IfOk result (λ n. n < 2 ^ 40) }
-{
-    let walker = Walker::start(config)?.through(arrivals)?;
-    Ok(walker.slots())
-}
-
 fn check_sps(config: &Config, sps: &[SpsOutcome]) -> Result<(), Decline>
     ensures is { result ≡ sps_judged config.now sps.now }
     ensures few { OnOk result (length sps.now ≤ 64) }
 {
-    match first_unfit(config, sps) {
-        None => Ok(()),
-        Some(i) => Err(Decline::new(Refusal::Sps, Part::Sps(i))),
+    if let Some(i) = first_unfit(config, sps) {
+        return Err(Decline::new(Refusal::Sps, Part::Sps(i)));
     }
+    Ok(())
 }
 
 // The length, the lent slots and the room, in this order.
@@ -65,7 +56,7 @@ pub(crate) fn judge(
     ensures is { result ≡ judged config.now arrivals.now sps.now lent room }
     ensures short { IfOk result (λ n. length_of config.now n (length sps.now) ≤ 1706) }
 {
-    let slots = count_slots(config, arrivals)?;
+    let slots = Walker::start(config)?.through(arrivals)?.slots();
     check_sps(config, sps)?;
     check_size(config, slots, sps.len(), lent, room)?;
     Ok(slots)

@@ -3,6 +3,7 @@ ghost use Rattle.std.specs.Prelude.{◌≡◌, Bool};
 ghost use Rattle.ue.specs.Slots.{slot_of, first_bit, second_bit};
 
 use crate::arrivals::Arrival;
+use harq::Mode;
 
 // The outcomes that an arrival brought, true for ACK: one or two. A place that no arrival has is one NACK.
 #[derive(Clone, Copy, Debug, PartialEq, Eq)]
@@ -27,9 +28,10 @@ impl Slot {
     pub fn first_bit(self, mode: u32) -> bool
         ensures { result ≡ first_bit mode self }
     {
+        let bundled = Mode::try_from(mode) == Ok(Mode::Bundled);
         match self {
-            Slot::One(first) => first,
-            Slot::Two(first, second) => if mode == 2 { first && second } else { first },
+            Slot::Two(first, second) if bundled => first && second,
+            Slot::One(first) | Slot::Two(first, _) => first,
         }
     }
 

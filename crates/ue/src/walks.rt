@@ -35,9 +35,8 @@ fn is_above(last: Option<(u32, u32)>, a: &Arrival) -> bool
 fn is_brought(config: &Config, a: &Arrival) -> bool
     ensures { result ≡ brought config.now a.now }
 {
-    let first = a.blocks < 1 || a.outcomes[0] <= 1;
-    let second = a.blocks < 2 || a.outcomes[1] <= 1;
-    config.blocks_within(a.blocks) && (first && second)
+    let mut outcomes = a.outcomes.iter().take(a.blocks as usize);
+    config.blocks_within(a.blocks) && outcomes.all(|outcome| *outcome <= 1)
 }
 
 fn known_total(known: Option<Known>, occasion: u32) -> Option<u32>
