@@ -5,7 +5,6 @@ pub mod Accepted
 pub mod Few
 pub mod Loops
 pub mod Clause
-pub mod Fills
 pub mod Gaining
 pub mod Placings
 pub mod Reporting

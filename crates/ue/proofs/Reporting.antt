@@ -22,9 +22,6 @@ module _ (g : Config) (arrivals : List Arrival) (sps : List SpsOutcome) (slots :
   a : Accepted g arrivals sps (length slots) room n
   a = accepted g arrivals sps (length slots) room n e
 
-  pub lent_enough : n ≤ length slots
-  lent_enough = a.lends
-
   pub slots_written : placed_by g (fresh (span g)) arrivals (filled n slots) ≡ held g arrivals ++ drop n slots
   slots_written = placed_held g arrivals slots n (few_accepted g a.config arrivals n a.passes) a.slots a.lends (rising g arrivals n a.passes) (below_slots g arrivals n a.passes)
 

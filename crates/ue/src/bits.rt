@@ -16,6 +16,7 @@ fn put_bit<S: BitSink>(bit: bool, sink: &mut S)
     requires { 1 ≤ S.room sink.old }
     ensures { Gains S.taken S.room S.took sink.old (bit ∷ []) sink.new }
 {
+    // There is room, so that no refusal is lost.
     let _ = sink.put(bit);
 }
 

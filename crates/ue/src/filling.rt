@@ -32,8 +32,8 @@ fn place_one(config: &Config, a: &Arrival, placer: &mut Placer, slots: &mut [Slo
     ensures slots { slots.new ≡ slots_behind config.now placer.old a.now slots.old }
 {
     if config.counts(a.cell, a.occasion) {
-        // The place is among the slots: they have been counted.
-        let _ = placer.place(slots, counter_of(config, a), Slot::of(a));
+        // The place is among the slots, since they have been counted, so that no refusal is lost.
+        let _ = placer.place(slots, counter_of(config, a), Slot::from(a));
     }
 }
 

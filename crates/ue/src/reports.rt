@@ -37,6 +37,7 @@ fn write_report<S: BitSink>(
 }
 
 // The length of the report, which the sink gains, or why it is declined and by which part; a declined report changes nothing.
+// Configuration, arrivals and SPS list are three parameters here and above: callers hold each apart, and a clause that read them out of a struct would only be longer.
 pub fn report_located<S: BitSink>(
     config: &Config,
     arrivals: &[Arrival],

@@ -1,5 +1,6 @@
 // The walk over the arrivals, which judges them one by one.
 ghost use Rattle.std.specs.Prelude.{◌≡◌, ℕ, ◌^◌, ◌<◌, Ok, IfOk};
+ghost use Rattle.std.specs.Option.{ok_or};
 ghost use Rattle.harq.specs.Words.{onward};
 ghost use Rattle.ue.specs.Walks.{start, above, known_total, joined, step, walk_from, slots_after, Sound, sound_prop};
 ghost use Rattle.ue.specs.Batches.{brought};
@@ -45,12 +46,13 @@ fn known_total(known: Option<Known>, occasion: u32) -> Option<u32>
     known.filter(|k| k.occasion == occasion)?.total
 }
 
-fn join(known: Option<u32>, total: Option<u32>) -> Option<Option<u32>>
-    ensures { result ≡ joined known total }
+// The total of an occasion with one arrival more.
+fn join(known: Option<u32>, total: Option<u32>) -> Result<Option<u32>, Refusal>
+    ensures { result ≡ ok_or (joined known total) Refusal.Totals }
 {
     match (known, total) {
-        (Some(u), Some(t)) if u != t => None,
-        _ => Some(known.or(total)),
+        (Some(u), Some(t)) if u != t => Err(Refusal::Totals),
+        _ => Ok(known.or(total)),
     }
 }
 
@@ -100,7 +102,7 @@ impl<'a> Walker<'a> {
             let walk = Walk { last, ..walk };
             return Ok(Walker { config, walk });
         }
-        let total = join(known_total(walk.known, a.occasion), total).ok_or(Refusal::Totals)?;
+        let total = join(known_total(walk.known, a.occasion), total)?;
         let known = Some(Known {
             occasion: a.occasion,
             total,
