@@ -1,8 +1,9 @@
 -- A report that is not declined is written whole. Assumes nothing.
+use Rattle.std.specs.Prelude.{flat_map}
 use Rattle.std.proofs.Common.{◌≡◌, ℕ, ◌+◌, ◌-◌, ◌*◌, ◌≤◌, List, ◌++◌, length, take, drop, Ok, Err, Result, sym, refl, ap, ◌∙◌, arith}
 use Rattle.std.proofs.lemmas.List.{take_at}
 use Rattle.harq.specs.declared.configs.Config.{Config}
-use Rattle.harq.specs.Words.{all_of, onward}
+use Rattle.harq.specs.Words.{onward}
 use Rattle.harq.specs.Configs.{span, bits_per_place}
 use Rattle.harq.specs.Placers.{fresh}
 use Rattle.ue.specs.declared.arrivals.Arrival.{Arrival}
@@ -32,9 +33,9 @@ module _ (g : Config) (arrivals : List Arrival) (sps : List SpsOutcome) (slots :
   pub places_read : (ys : List Slot) → ys ≡ held g arrivals ++ drop n slots → take (n - 0) ys ≡ held g arrivals
   places_read ys is = ap (take (n - 0)) is ∙ take_at (held g arrivals) (drop n slots) (n - 0) (long ∙ omega arith)
 
-  pub bits_long : (ys : List Slot) → ys ≡ held g arrivals ++ drop n slots → length (all_of (place_bits g.mode) (take (n - 0) ys)) ≡ bits_per_place g * n
+  pub bits_long : (ys : List Slot) → ys ≡ held g arrivals ++ drop n slots → length (flat_map (place_bits g.mode) (take (n - 0) ys)) ≡ bits_per_place g * n
   bits_long ys is =
-      ap (λ (l : List Slot). length (all_of (place_bits g.mode) l)) (places_read ys is)
+      ap (λ (l : List Slot). length (flat_map (place_bits g.mode) l)) (places_read ys is)
       ∙ length_slot_bits g arrivals ∙ ap (λ (k : ℕ). bits_per_place g * k) (sym a.slots)
 
   pub room_enough : bits_per_place g * n + length sps ≤ room

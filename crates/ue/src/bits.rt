@@ -1,6 +1,5 @@
 // The bits of a report, put into a sink that has room for them.
-ghost use Rattle.std.specs.Prelude.{◌≡◌, ◌*◌, ◌≤◌, [], ◌∷◌, map, length};
-ghost use Rattle.harq.specs.Words.{all_of};
+ghost use Rattle.std.specs.Prelude.{◌≡◌, ◌*◌, ◌≤◌, [], ◌∷◌, map, length, flat_map};
 ghost use Rattle.harq.specs.Configs.{bits_per_place};
 ghost use Rattle.sink.specs.Gains.{Gains};
 ghost use Rattle.ue.specs.Slots.{place_bits};
@@ -34,7 +33,7 @@ fn put_place<S: BitSink>(config: &Config, slot: Slot, sink: &mut S)
 // The bits of each place.
 pub(crate) fn put_places<S: BitSink>(config: &Config, slots: &[Slot], sink: &mut S)
     requires { bits_per_place config.now * length slots.now ≤ S.room sink.old }
-    ensures { Gains S.taken S.room S.took sink.old (all_of (place_bits config.now.mode) slots.now) sink.new }
+    ensures { Gains S.taken S.room S.took sink.old (flat_map (place_bits config.now.mode) slots.now) sink.new }
 {
     for slot in slots {
         put_place(config, *slot, sink);

@@ -1,7 +1,7 @@
+use Rattle.std.specs.Prelude.{flat_map}
 use Rattle.std.proofs.Common.{◌++◌, map, ap, ◌∙◌, arith}
 use Rattle.harq.specs.Configs.{span}
 use Rattle.harq.specs.Placers.{fresh}
-use Rattle.harq.specs.Words.{all_of}
 use Rattle.ue.specs.Slots.{place_bits}
 use Rattle.ue.specs.Fillings.{placed_by}
 use Rattle.ue.specs.Reports.{sps_bit}
@@ -23,5 +23,5 @@ returns g c =
       slots = written;
       gains =
           gains_both g.S.BitSink.taken g.S.BitSink.room g.S.BitSink.took _ _ _ _ _ _ c.put_places.ensures c.put_sps.ensures
-          (ap (λ l. all_of (place_bits q.mode) l ++ map sps_bit c.args.sps.now) (places_read q _ _ _ _ _ c.requires _ written));
+          (ap (λ l. flat_map (place_bits q.mode) l ++ map sps_bit c.args.sps.now) (places_read q _ _ _ _ _ c.requires _ written));
     }
