@@ -1,21 +1,13 @@
-// The slots of a report: filled with NACK, then each outcome at its place.
-ghost use Rattle.std.specs.Prelude.{◌≡◌, ◌≤◌, length};
+// The slots of a report: each outcome at its place.
+ghost use Rattle.std.specs.Prelude.{◌≡◌, length};
 ghost use Rattle.harq.specs.Configs.{span};
 ghost use Rattle.harq.specs.Placers.{fresh};
 ghost use Rattle.ue.specs.Batches.{counter};
-ghost use Rattle.ue.specs.Fillings.{filled, placer_behind, slots_behind, placed_by};
+ghost use Rattle.ue.specs.Fillings.{placer_behind, slots_behind, placed_by};
 
 use crate::arrivals::Arrival;
 use crate::slots::Slot;
 use harq::{Config, Placer};
-
-// Fills the first slots with NACK.
-pub(crate) fn fill_nack(slots: &mut [Slot], count: usize)
-    requires { count ≤ length slots.old }
-    ensures { slots.new ≡ filled count slots.old }
-{
-    slots[0..count].fill(Slot::One(false));
-}
 
 // The counter of an arrival, whose field has been judged.
 fn counter_of(config: &Config, a: &Arrival) -> u32
