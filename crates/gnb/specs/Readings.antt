@@ -13,12 +13,19 @@ use Rattle.gnb.specs.declared.marks.Mark.TheVariants.{Negative, Delivered, Unans
 use Rattle.gnb.specs.declared.marks.Marks.{Marks}
 use Rattle.gnb.specs.declared.marks.Marks.TheVariants.{One, Two}
 use Rattle.gnb.specs.declared.states.Awaiting.{Awaiting}
+use denote.Ref.{Bor}
+use Rattle.sink.specs.Bits.{bits_of}
 use Rattle.gnb.specs.Marks.{mark_number}
 use Rattle.gnb.specs.Calls.{expected}
 
 -- the report answers: it has the expected length, and the bytes hold it
 abbrev pub answering : BatchState → ℕ → ℕ → Bool
 answering b bytes long = long == expected b && nat_le long (8 * bytes)
+
+-- the bits of a report that answers; none where there is none
+abbrev pub bits_heard : Option (Bor (List ℕ)) → List Bool
+bits_heard None = []
+bits_heard (Some bytes) = bits_of bytes.now
 
 -- the mark by bit p of a report; unanswered where the report does not answer
 abbrev pub mark_by : Bool → List Bool → ℕ → Mark

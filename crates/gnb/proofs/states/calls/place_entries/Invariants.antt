@@ -4,9 +4,8 @@ use Rattle.sink.specs.Written.{written}
 use Rattle.gnb.specs.Calls.{entries_of}
 use Rattle.gnb.proofs.states.calls.place_entries.Given as goal
 
-abbrev pub invariant-loop-a : goal.invariant-loop-a
-invariant-loop-a l =
-    (l.k ≡ l.numbered + l.a-index) ×
-    (l.placer ≡ placer_after l.span l.k) ×
-    (written l.table l.k (entries_of l.config l.occasion l.total l.k (drop l.a-index l.grants))
+abbrev pub invariant-loop-i : goal.invariant-loop-i
+invariant-loop-i l =
+    (l.placer ≡ placer_after l.span (l.numbered + l.i)) ×
+    (written l.table (l.numbered + l.i) (entries_of l.config l.occasion l.total (l.numbered + l.i) (drop l.i l.grants))
     ≡ written l.initial.table l.numbered (entries_of l.config l.occasion l.total l.numbered l.grants))
