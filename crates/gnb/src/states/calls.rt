@@ -8,11 +8,11 @@ ghost use Rattle.gnb.specs.Marks.{answered_blocks};
 ghost use Rattle.gnb.specs.Calls.{allowed, grant_refused, grants_refused, occasion_refused, call_refused, field_by, entry_of, entries_of, blocks_in, call_answer, batch_after, table_after, expected};
 ghost use Rattle.gnb.specs.Entries.{entry_at};
 
-use super::{Awaiting, Numbering};
-use crate::batches::BatchState;
+use super::{Awaiting, Numbering, State};
 use crate::grants::{Grant, GrantEntry};
 use crate::marks::Marks;
 use harq::{Config, Placer, Refusal};
+use std::marker::PhantomData;
 
 // The DAI field of number k, where `total` are numbered with its call.
 fn field_of(config: &Config, format: u32, k: u32, total: u32) -> u32
@@ -87,12 +87,12 @@ fn count_blocks(grants: &[Grant]) -> u32
     grants.iter().map(|a| answered_blocks(a.blocks)).sum()
 }
 
-impl BatchState {
-    // The entry of a number.
-    fn entry(&self, table: &[GrantEntry], number: u32) -> Option<GrantEntry>
-        ensures { result ≡ entry_at self.now.numbered table.now number }
+impl<P> State<P> {
+    // The entry of a number, none outside those numbered or the table.
+    pub fn entry(&self, table: &[GrantEntry], number: u32) -> Option<GrantEntry>
+        ensures { result ≡ entry_at self.now.batch.numbered table.now number }
     {
-        if 1 <= number && number <= self.numbered {
+        if 1 <= number && number <= self.batch.numbered {
             table.get(number as usize - 1).copied()
         } else {
             None
@@ -191,20 +191,16 @@ impl Numbering {
         Ok(numbered)
     }
 
-    // The entry of a number, none outside those numbered or the table.
-    pub fn entry(&self, table: &[GrantEntry], number: u32) -> Option<GrantEntry>
-        ensures { result ≡ entry_at self.now.batch.numbered table.now number }
-    {
-        self.batch.entry(table, number)
-    }
-
     // Ends numbering: the length of the report to expect, and the state that awaits it.
     pub fn close(self) -> (usize, Awaiting)
         ensures length { result.0 ≡ expected self.batch }
         ensures batch { result.1.batch ≡ self.batch }
     {
-        let Numbering { batch } = self;
-        let awaiting = Awaiting { batch };
+        let Numbering { batch, phase: _ } = self;
+        let awaiting = Awaiting {
+            batch,
+            phase: PhantomData,
+        };
         (awaiting.expected(), awaiting)
     }
 }
@@ -216,12 +212,5 @@ impl Awaiting {
     {
         let grants = self.batch.numbered as usize;
         self.batch.config.bits_per_place() * grants + self.batch.sps as usize
-    }
-
-    // The entry of a number, none outside those numbered or the table.
-    pub fn entry(&self, table: &[GrantEntry], number: u32) -> Option<GrantEntry>
-        ensures { result ≡ entry_at self.now.batch.numbered table.now number }
-    {
-        self.batch.entry(table, number)
     }
 }

@@ -10,6 +10,7 @@ use crate::grants::GrantEntry;
 use crate::marks::Mark;
 use harq::sps::first_unfit;
 use harq::{Config, Refusal, SpsEntry};
+use std::marker::PhantomData;
 
 // Whether an SPS list is within limits and in order.
 fn is_in_order(config: &Config, sps: &[SpsEntry]) -> bool
@@ -49,6 +50,7 @@ impl Numbering {
                 numbered: 0,
                 granted: count,
             },
+            phase: PhantomData,
         })
     }
 }

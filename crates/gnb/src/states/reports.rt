@@ -107,7 +107,7 @@ impl Awaiting {
         ensures table { table.new ≡ table_read self.batch (is_some report.entry) (bits_heard report.entry) table.old }
         ensures marks { marks.new ≡ sps_read self.batch (is_some report.entry) (bits_heard report.entry) marks.old }
     {
-        let Awaiting { batch } = self;
+        let Awaiting { batch, phase: _ } = self;
         let entries = &mut table[..batch.numbered as usize];
         let sps = &mut marks[..batch.sps as usize];
         mark_entries(&batch.config, report, entries);

@@ -6,7 +6,7 @@ use Rattle.gnb.specs.declared.marks.Mark.{Mark}
 use Rattle.gnb.specs.Readings.{bits_heard, entry_read, firsts, mark_by, entry_marks, with_marks, none_counted, table_read, sps_read}
 use Rattle.gnb.proofs.Firsts.{firsts_front, take_front}
 use Rattle.gnb.proofs.Tallies.{with_more, marks_alone}
-use Rattle.gnb.proofs.states.Awaiting.settle.Goals as goal
+use Rattle.gnb.proofs.states.reports.Awaiting.settle.Goals as goal
 
 pub returns : goal.returns
 returns c =

@@ -1,7 +1,7 @@
 use Rattle.std.proofs.Common.{ap₂, is_some, ap, ◌∙◌, rules}
 use Rattle.gnb.specs.Readings.{bits_heard, table_read, sps_read, counted}
 use Rattle.gnb.proofs.Firsts.{table_heard, sps_heard}
-use Rattle.gnb.proofs.states.Awaiting.read.Goals as goal
+use Rattle.gnb.proofs.states.reports.Awaiting.read.Goals as goal
 
 pub returns : goal.returns
 returns c =

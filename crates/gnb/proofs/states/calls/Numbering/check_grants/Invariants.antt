@@ -1,6 +1,6 @@
 use Rattle.std.proofs.Common.{◌≡◌, ◌≤◌, drop}
 use Rattle.gnb.specs.Calls.{grants_refused}
-use Rattle.gnb.proofs.states.Numbering.check_grants.Given as goal
+use Rattle.gnb.proofs.states.calls.Numbering.check_grants.Given as goal
 
 abbrev pub invariant-loop-a : goal.invariant-loop-a
 invariant-loop-a l =

@@ -3,7 +3,7 @@ use Rattle.std.proofs.lemmas.List.{at_drop_all}
 use Rattle.std.proofs.lemmas.Result.{err_from_is_err_and}
 use Rattle.gnb.specs.Calls.{allowed, grants_refused}
 use Rattle.gnb.proofs.Calling.{allowed_none, grant_within, goes_on, stops}
-use Rattle.gnb.proofs.states.Numbering.check_grants.Goals as goal
+use Rattle.gnb.proofs.states.calls.Numbering.check_grants.Goals as goal
 
 pub returns-in_err-check_grant : goal.returns-in_err-check_grant
 returns-in_err-check_grant c =
