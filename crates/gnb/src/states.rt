@@ -17,7 +17,8 @@ pub struct Open;
 // Numbering is closed, and the report is awaited.
 pub struct Closed;
 
-// A batch in one of its phases.
+// A batch in one of its phases. The lent table and the lent marks come with each call, and not in a struct of both: its contracts would
+// speak of two loans where they now speak of two lists.
 pub struct State<P> {
     batch: BatchState,
     phase: PhantomData<P>,

@@ -45,32 +45,6 @@ fn counter_of(span: u32, k: u32) -> u32
     k.saturating_sub(1) % span + 1
 }
 
-// Places the entries of a call's grants in the table, each by its counter, behind the first `numbered`.
-fn place_entries(
-    config: &Config,
-    occasion: u32,
-    numbered: u32,
-    grants: &[Grant],
-    table: &mut [GrantEntry],
-)
-    requires small { numbered + length grants.now ≤ 1024 }
-    requires space { numbered + length grants.now ≤ length table.old }
-    ensures { table.new ≡ written table.old numbered (entries_of config.now occasion (numbered + length grants.now) numbered grants.now) }
-{
-    let span = config.span();
-    let total = numbered + grants.len() as u32;
-    let mut placer = Placer::after(span, numbered);
-    for (i, a) in grants.iter().enumerate() {
-        let k = numbered + i as u32 + 1;
-        // The place is in the table: its space has been judged.
-        let _ = placer.place(
-            table,
-            counter_of(span, k),
-            entry_of(config, occasion, total, k, a),
-        );
-    }
-}
-
 // The blocks of a grant that ask an answer: one without a block counts as one.
 fn answered_blocks(blocks: u32) -> u32
     ensures { result ≡ answered_blocks blocks }
@@ -92,7 +66,7 @@ impl<P> State<P> {
     pub fn entry(&self, table: &[GrantEntry], number: u32) -> Option<GrantEntry>
         ensures { result ≡ entry_at self.now.batch.numbered table.now number }
     {
-        if 1 <= number && number <= self.batch.numbered {
+        if (1..=self.batch.numbered).contains(&number) {
             table.get(number as usize - 1).copied()
         } else {
             None
@@ -164,6 +138,28 @@ impl Numbering {
         Ok(())
     }
 
+    // Places the entries of a call's grants in the table, each by its counter, behind those before.
+    fn place_entries(&self, occasion: u32, grants: &[Grant], table: &mut [GrantEntry])
+        requires few { length grants.now ≤ self.now.batch.config.cells }
+        requires space { self.now.batch.numbered + length grants.now ≤ length table.old }
+        ensures { table.new ≡ written table.old self.now.batch.numbered (entries_of self.now.batch.config occasion (self.now.batch.numbered + length grants.now) self.now.batch.numbered grants.now) }
+    {
+        let config = &self.batch.config;
+        let span = config.span();
+        let numbered = self.batch.numbered;
+        let total = numbered + grants.len() as u32;
+        let mut placer = Placer::after(span, numbered);
+        for (i, a) in grants.iter().enumerate() {
+            let k = numbered + i as u32 + 1;
+            // The place is in the table: its space has been judged.
+            let _ = placer.place(
+                table,
+                counter_of(span, k),
+                entry_of(config, occasion, total, k, a),
+            );
+        }
+    }
+
     // Numbers the grants of one occasion on behind those before, and answers how many are numbered now; a declined call changes nothing.
     pub fn number(
         &mut self,
@@ -176,13 +172,7 @@ impl Numbering {
         ensures table { table.new ≡ table_after self.old.batch occasion grants.now table.old }
     {
         self.check_call(table.len(), occasion, grants)?;
-        place_entries(
-            &self.batch.config,
-            occasion,
-            self.batch.numbered,
-            grants,
-            table,
-        );
+        self.place_entries(occasion, grants, table);
         let numbered = self.batch.numbered + grants.len() as u32;
         let granted = self.batch.granted + count_blocks(grants);
         self.batch.last = Some(occasion);
