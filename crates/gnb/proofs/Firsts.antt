@@ -52,10 +52,6 @@ module _ {X : Type 0} (f : ℕ → X → X) where
       ∙ (let z : n ≡ 0 + n = omega arith in ap (λ (m : ℕ). set (firsts f 0 n xs) n (f m (get_or xs n d))) z)
       ∙ firsts_more 0 n xs d h
 
-  -- where such a loop ends
-  pub firsts_end : (n : ℕ) (xs t : List X) → t ≡ firsts f 0 n xs → n ≡ length xs → t ≡ firsts f 0 (length xs) xs
-  firsts_end n xs t is all = is ∙ ap (λ (m : ℕ). firsts f 0 m xs) all
-
   -- the first elements by themselves, and those behind them
   pub firsts_front : (k n : ℕ) (xs : List X) → firsts f k (length (take n xs)) (take n xs) ++ drop n xs ≡ firsts f k n xs
   firsts_front k zero xs = refl
