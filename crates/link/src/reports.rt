@@ -1,5 +1,5 @@
 // The UE's report for what arrives, and what the gNB hears of it.
-ghost use Rattle.std.specs.Prelude.{◌≡◌, length};
+ghost use Rattle.std.specs.Prelude.{◌*◌, ◌≤◌, length, IfOk};
 ghost use Rattle.ue.specs.Reports.{gained_by};
 ghost use Rattle.agreement.specs.Agreement.{Hold};
 ghost use Rattle.link.specs.Reported.{IsReported};
@@ -26,7 +26,7 @@ pub(crate) fn report_heard<W: Way, S: BitSink>(
 ) -> Heard
     ensures reported { IsReported S.taken S.room S.took W.aired config.now arrivals.now sps.now slots.old sink.old result.report slots.new sink.new }
     ensures heard { Hold result.bytes (gained_by config.now arrivals.now sps.now result.report) }
-    ensures long { length result.bytes ≡ 214 }
+    ensures held { IfOk result.report (λ n. n ≤ 8 * length result.bytes) }
 {
     let mut recorder = Recorder::new(sink);
     let report = W::report(config, arrivals, sps, slots, &mut recorder);

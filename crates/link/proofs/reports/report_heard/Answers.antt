@@ -1,9 +1,9 @@
-use Rattle.std.proofs.Common.{◌≡◌, ◌≤◌, Bool, true, List, ◌++◌, length, replicate, sym, refl, ap, ◌∙◌, subst, arith, rules}
+use Rattle.std.proofs.Common.{◌≡◌, ◌≤◌, Bool, true, List, ◌++◌, length, replicate, IfOk, sym, refl, ap, ◌∙◌, subst, arith, rules}
 use Rattle.std.proofs.lemmas.List.{length-replicate}
 use Rattle.sink.specs.Gains.{Gains}
 use Rattle.ue.specs.Reports.{gained_by}
 use Rattle.link.proofs.Layers.{packed_heard}
-use Rattle.link.proofs.Bounds.{gained_few}
+use Rattle.link.proofs.Bounds.{answered_few, gained_few, held_by}
 use Rattle.link.proofs.reports.report_heard.Goals as goal
 
 pub returns : goal.returns
@@ -30,6 +30,7 @@ returns g c =
           (record { below = record { ref_ptr = before.below.ref_ptr; ghost_name = before.below.ghost_name; now = first }; bits = record { items = replicate 1713 true } }) more
           ((refl, t), λ small. absurd (omega (arith, length-replicate 1713 true)))).0.1;
     } in
+    let long : length c.pack.new.bytes ≡ 214 = search rules in
     record {
       reported = record {
         answer = search rules;
@@ -39,5 +40,5 @@ returns g c =
         kept = search rules;
       };
       heard = packed_heard aired way.same_length way.undoes _ _ c.bits.result.now bits (c.bits.ensures ∙ recorded) refl (omega (arith, few)) c.pack.ensures;
-      long = search rules;
+      held = held_by _ _ long (subst (λ r. IfOk r (λ n. n ≤ 1706)) (sym reported.answer) (answered_few c.args.config.now c.args.arrivals.now c.args.sps.now (length c.args.slots.now) _));
     }

@@ -1,22 +1,20 @@
-use Rattle.std.proofs.Common.{◌≡◌, ◌-◌, ◌≤◌, List, map, length, take, IfOk, sym, refl, ap, ◌∙◌, subst, ap₂, arith}
+use Rattle.std.proofs.Common.{◌≡◌, List, length, take, sym, refl, ap, ◌∙◌, subst, ap₂, arith}
 use Rattle.std.proofs.lemmas.Result.{err_from_is_err_and}
 use Rattle.harq.specs.Words.{every}
 use Rattle.sink.specs.Bits.{bits_of}
 use Rattle.ue.specs.declared.arrivals.Arrival.{Arrival}
-use Rattle.ue.specs.Reports.{report_answer, refusal_in, gained_by}
+use Rattle.ue.specs.Reports.{gained_by}
 use Rattle.gnb.specs.declared.batches.BatchState.{BatchState}
 use Rattle.gnb.specs.declared.grants.GrantEntry.{GrantEntry}
 use Rattle.gnb.specs.declared.marks.Mark.{Mark}
 use Rattle.gnb.specs.Calls.{expected}
-use Rattle.gnb.specs.Sending.{assignment_in}
 use Rattle.gnb.specs.Readings.{table_read, sps_read, counted, too_short, has_place}
 use Rattle.agreement.specs.Agreement.{Hold}
-use Rattle.agreement.specs.Fates.{arrivals_of}
-use Rattle.agreement.specs.Exchanges.{Exchange, all_sent, all_arrived, batch_left, table_left, marks_left}
+use Rattle.agreement.specs.Exchanges.{Exchange, all_arrived, batch_left, table_left, marks_left}
 use Rattle.link.specs.Reported.{IsReported}
 use Rattle.link.specs.Played.{exchange_of, is_expected}
 use Rattle.link.proofs.Layers.{aired_none}
-use Rattle.link.proofs.Playing.{batch_is, table_is, sent_fit, sent_held, own, lent, report_few, held_by}
+use Rattle.link.proofs.Playing.{batch_is, table_is, sent_fit, arrived_is, own, lent}
 use Rattle.link.proofs.Exchanging.{declined, played}
 use Rattle.link.proofs.exchanges.Batch.exchange.Goals as goal
 
@@ -36,28 +34,24 @@ slice_bounds-arrive-end g c =
     let is = c.in_ok-numbering.ensures.answer in
     omega (arith, sent_fit x b is, ap (λ (s : BatchState). s.numbered) (batch_is x b is), ap length (table_is x b is), c.number_all-sent.ensures.answer, ap length c.number_all-sent.ensures.table)
 
-pub settle-counts-requires : goal.settle-counts-requires
-settle-counts-requires g c =
+pub settle-counts-requires-clause-lent : goal.settle-counts-requires-clause-lent
+settle-counts-requires-clause-lent g c =
     let x : Exchange = exchange_of c.args.self.now c.args.table.now c.args.marks.now c.args.slots.now (g.S.BitSink.room c.args.sink.now) in
     let b = c.in_ok-numbering.numbering.batch in
     let is = c.in_ok-numbering.ensures.answer in
     let batch : c.close-expected.result.1.batch ≡ batch_left x = c.close-expected.ensures.batch ∙ c.number_all-sent.ensures.batch ∙ batch_is x b is in
     let table : c.number_all-sent.new.table ≡ table_left x = c.number_all-sent.ensures.table ∙ table_is x b is in
-    let marks : c.open.new.marks ≡ marks_left x = c.open.ensures.marks in
-    let n = c.number_all-sent.result - 0 in
-    let sent : map assignment_in (take n c.number_all-sent.new.table) ≡ all_sent x =
-    ap (λ (t : List GrantEntry). map assignment_in (take n t)) table
-    ∙ sent_held x b is n (omega (arith, c.number_all-sent.ensures.answer, ap (λ (s : BatchState). s.numbered) (batch_is x b is)))
-    in
-    let came : c.deref.result.now ≡ all_arrived x = c.deref.ensures.0 ∙ c.arrive-arrivals.ensures ∙ ap (arrivals_of x.fates) sent in
-    let answer = c.report_heard-report.ensures.reported.answer ∙ ap (λ (l : List Arrival). refusal_in (report_answer x.config l x.sps (length x.slots) x.room)) came in
-    record {
-      lent =
-          ap₂ (λ (s : BatchState) (t : List GrantEntry). too_short s (length t) (length c.open.new.marks)) batch table
-          ∙ ap (λ (m : List Mark). too_short (batch_left x) (length (table_left x)) (length m)) marks ∙ lent x b is;
-      own = ap₂ (λ (s : BatchState) (t : List GrantEntry). every (has_place s.numbered) (take s.numbered t)) batch table ∙ own x b is;
-      held = held_by _ _ c.report_heard-report.ensures.long (subst (λ r. IfOk r (λ n. n ≤ 1706)) (sym answer) (report_few x));
-    }
+    ap₂ (λ (s : BatchState) (t : List GrantEntry). too_short s (length t) (length c.open.new.marks)) batch table
+    ∙ ap (λ (m : List Mark). too_short (batch_left x) (length (table_left x)) (length m)) c.open.ensures.marks ∙ lent x b is
+
+pub settle-counts-requires-clause-own : goal.settle-counts-requires-clause-own
+settle-counts-requires-clause-own g c =
+    let x : Exchange = exchange_of c.args.self.now c.args.table.now c.args.marks.now c.args.slots.now (g.S.BitSink.room c.args.sink.now) in
+    let b = c.in_ok-numbering.numbering.batch in
+    let is = c.in_ok-numbering.ensures.answer in
+    let batch : c.close-expected.result.1.batch ≡ batch_left x = c.close-expected.ensures.batch ∙ c.number_all-sent.ensures.batch ∙ batch_is x b is in
+    let table : c.number_all-sent.new.table ≡ table_left x = c.number_all-sent.ensures.table ∙ table_is x b is in
+    ap₂ (λ (s : BatchState) (t : List GrantEntry). every (has_place s.numbered) (take s.numbered t)) batch table ∙ own x b is
 
 pub returns : goal.returns
 returns g c =
@@ -67,12 +61,9 @@ returns g c =
     let batch : c.close-expected.result.1.batch ≡ batch_left x = c.close-expected.ensures.batch ∙ c.number_all-sent.ensures.batch ∙ batch_is x b is in
     let table : c.number_all-sent.new.table ≡ table_left x = c.number_all-sent.ensures.table ∙ table_is x b is in
     let marks : c.open.new.marks ≡ marks_left x = c.open.ensures.marks in
-    let n = c.number_all-sent.result - 0 in
-    let sent : map assignment_in (take n c.number_all-sent.new.table) ≡ all_sent x =
-    ap (λ (t : List GrantEntry). map assignment_in (take n t)) table
-    ∙ sent_held x b is n (omega (arith, c.number_all-sent.ensures.answer, ap (λ (s : BatchState). s.numbered) (batch_is x b is)))
+    let came : c.deref.result.now ≡ all_arrived x =
+    c.deref.ensures.0 ∙ c.arrive-arrivals.ensures ∙ arrived_is x b is _ _ (omega (arith, c.number_all-sent.ensures.answer)) c.number_all-sent.ensures.table
     in
-    let came : c.deref.result.now ≡ all_arrived x = c.deref.ensures.0 ∙ c.arrive-arrivals.ensures ∙ ap (arrivals_of x.fates) sent in
     let r = c.report_heard-report.result.report in
     let bytes = c.report_heard-report.result.bytes in
     let reported =
