@@ -9,7 +9,7 @@ use crate::failures::Failure;
 use crate::scripts::{Asked, Script};
 use gnb::{Awaiting, Call, GrantEntry, Mark, Marks, Numbering};
 use harq::{Config, Refusal, SpsEntry};
-use link::{Exchanged, exchange, exchange_inverted};
+use link::{Batch, Exchanged, Inverted, Plain};
 use sink::TextBits;
 use std::alloc::{AllocError, Global};
 use ue::{Slot, SpsOutcome};
@@ -153,18 +153,15 @@ fn run(
 ) -> Result<Exchanged, Refusal> {
     let mut slots = [Slot::One(false); LONGEST];
     let mut sink = TextBits::new(digits);
-    let config = &script.config;
-    let sps = script.sps.as_slice();
-    let fates = script.fates.as_slice();
+    let batch = Batch {
+        config: &script.config,
+        sps: script.sps.as_slice(),
+        calls,
+        fates: script.fates.as_slice(),
+    };
     match way {
-        Way::Plain => exchange(
-            config, sps, calls, fates, table, marks, &mut slots, &mut sink,
-        ),
-        Way::Inverted => {
-            exchange_inverted(
-                config, sps, calls, fates, table, marks, &mut slots, &mut sink,
-            )
-        }
+        Way::Plain => batch.exchange::<Plain, _>(table, marks, &mut slots, &mut sink),
+        Way::Inverted => batch.exchange::<Inverted, _>(table, marks, &mut slots, &mut sink),
     }
 }
 

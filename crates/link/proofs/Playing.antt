@@ -1,5 +1,5 @@
 -- The steps of an exchange, put together. Assumes nothing.
-use Rattle.std.proofs.Common.{◌≡◌, ℕ, ◌*◌, ◌≤◌, true, false, List, map, length, take, is_ok, IfOk, Some, None, Ok, Err, Option, Result, sym, refl, ap, ◌∙◌, arith}
+use Rattle.std.proofs.Common.{◌≡◌, ℕ, ◌≤◌, true, false, List, map, length, take, is_ok, Some, None, Ok, Err, Option, Result, sym, refl, ap, ◌∙◌, arith}
 use Rattle.std.proofs.lemmas.Bool.{eqb-true, le-ltb, or_from, true≢false}
 use Rattle.harq.specs.declared.configs.Config.{Config}
 use Rattle.harq.specs.declared.refusals.Refusal.{Refusal}
@@ -9,15 +9,17 @@ use Rattle.sink.specs.Bits.{bits_of}
 use Rattle.ue.specs.declared.declines.Decline.{Decline}
 use Rattle.ue.specs.Checks.{judged, length_of}
 use Rattle.ue.specs.Reports.{refusal_in, gained_by}
-use Rattle.ue.proofs.Accepted.{accepted, length_report}
+use Rattle.ue.proofs.Accepted.{length_report}
 use Rattle.gnb.specs.declared.batches.BatchState.{BatchState}
+use Rattle.gnb.specs.declared.grants.GrantEntry.{GrantEntry}
 use Rattle.gnb.specs.declared.marks.Mark.{Mark}
 use Rattle.gnb.specs.Calls.{expected}
 use Rattle.gnb.specs.Opening.{opening_refused, opened_by, fresh_batch, marks_by}
 use Rattle.gnb.specs.Sending.{batch_run, table_run}
 use Rattle.gnb.specs.Sending.{assignment_in}
 use Rattle.gnb.specs.Readings.{table_read, sps_read, too_short, has_place}
-use Rattle.agreement.specs.Exchanges.{Exchange, sps_list, all_sent, all_arrived, report_answered, batch_left, table_left, marks_left}
+use Rattle.agreement.specs.Fates.{arrivals_of}
+use Rattle.agreement.specs.Exchanges.{Exchange, sps_list, all_sent, all_arrived, batch_left, table_left, marks_left}
 use Rattle.link.specs.Played.{is_expected, answers, bits_gained, table_marked, marks_marked, opening, if_opened, report_made}
 use Rattle.gnb.proofs.Entries.{entries_fit, entries_placed}
 use Rattle.agreement.proofs.Left.{left, sps_left, sps_lent, marks_many}
@@ -48,16 +50,8 @@ pub unmade : (r : Result ℕ Refusal) → report_made r ≡ false → is_ok r �
 unmade (Ok n) e = e
 unmade (Err y) e = refl
 
--- a report by what the checks say of it: its length is at most 1,706, and its bits are so many
+-- a report by what the checks say of it: its bits are so many
 module _ (x : Exchange) where
-  answered_few : (r : Result ℕ Decline) → judged x.config (all_arrived x) x.sps (length x.slots) x.room ≡ r →
-      IfOk (refusal_in (onward r (λ slots. Ok (length_of x.config slots (length x.sps))))) (λ n. n ≤ 1706)
-  answered_few (Ok n) e = (accepted x.config (all_arrived x) x.sps (length x.slots) x.room n e).short
-  answered_few (Err d) e = tt
-
-  pub report_few : IfOk (report_answered x) (λ n. n ≤ 1706)
-  report_few = answered_few (judged x.config (all_arrived x) x.sps (length x.slots) x.room) refl
-
   gained_as : (r : Result ℕ Decline) → judged x.config (all_arrived x) x.sps (length x.slots) x.room ≡ r → (wanted : ℕ) →
       is_expected wanted (refusal_in (onward r (λ slots. Ok (length_of x.config slots (length x.sps))))) ≡ true →
       length (gained_by x.config (all_arrived x) x.sps (refusal_in (onward r (λ slots. Ok (length_of x.config slots (length x.sps)))))) ≡ wanted
@@ -67,11 +61,6 @@ module _ (x : Exchange) where
   -- a report that answers has as many bits as are expected
   pub gained_long : answers x ≡ true → length (bits_gained x) ≡ expected (batch_left x)
   gained_long = gained_as (judged x.config (all_arrived x) x.sps (length x.slots) x.room) refl (expected (batch_left x))
-
--- a report of at most 1,706 bits is held by 214 bytes
-pub held_by : (r : Result ℕ Refusal) (bytes : ℕ) → bytes ≡ 214 → IfOk r (λ n. n ≤ 1706) → IfOk r (λ n. n ≤ 8 * bytes)
-held_by (Ok n) bytes is few = omega arith
-held_by (Err e) bytes is few = tt
 
 module _ (x : Exchange) (b : BatchState) (is : Ok b ≡ opening x) where
   abbrev fresh : BatchState
@@ -98,8 +87,15 @@ module _ (x : Exchange) (b : BatchState) (is : Ok b ≡ opening x) where
   own = entries_placed x.config (sps_list x) x.table x.calls (batch_left x) (table_left x) (left x unrefused)
 
   -- the entries hold what was sent
-  pub sent_held : (n : ℕ) → n ≡ (batch_left x).numbered → map assignment_in (take n (table_left x)) ≡ all_sent x
+  sent_held : (n : ℕ) → n ≡ (batch_left x).numbered → map assignment_in (take n (table_left x)) ≡ all_sent x
   sent_held n e = ap (λ (k : ℕ). map assignment_in (take k (table_left x))) e ∙ (left x unrefused).holds
+
+  -- and what arrives of them is what the UE has
+  pub arrived_is : (n : ℕ) (table : List GrantEntry) → n ≡ (batch_run b x.table x.calls).numbered → table ≡ table_run b x.table x.calls →
+      arrivals_of x.fates (map assignment_in (take n table)) ≡ all_arrived x
+  arrived_is n table e is-table =
+      ap (λ (t : List GrantEntry). arrivals_of x.fates (map assignment_in (take n t))) (is-table ∙ table_is)
+      ∙ ap (arrivals_of x.fates) (sent_held n (e ∙ ap (λ (s : BatchState). s.numbered) batch_is))
 
   -- what is lent is long enough
   pub lent : too_short (batch_left x) (length (table_left x)) (length (marks_left x)) ≡ false

@@ -1,14 +1,13 @@
 // A scenario played through both cards. What they do is taken from their own calls.
 ghost use Rattle.std.specs.Prelude.{◌≡◌, map, IfOk};
 ghost use Rattle.ue.specs.declared.arrivals.SpsOutcome.{SpsOutcome};
-ghost use Rattle.agreement.specs.Fates.{fate_of};
 ghost use Rattle.scenario.specs.Arrived.{arrives, numbered_from};
 
 use crate::scenarios::{Request, Scenario};
 use agreement::Fate;
 use gnb::{Awaiting, Call, GrantEntry, Mark, Marks, Numbering};
 use harq::{Config, Placer, Refusal, SpsEntry};
-use link::{Exchanged, exchange};
+use link::{Batch, Exchanged, Plain};
 use sink::TextBits;
 use std::alloc::{AllocError, Global};
 use ue::{Slot, SpsOutcome};
@@ -24,11 +23,6 @@ const NO_ENTRY: GrantEntry = GrantEntry {
     number: 0,
     field: 0,
     marks: Marks::One(Mark::Negative),
-};
-
-const LOST: Fate = Fate {
-    arrived: false,
-    outcomes: [0; 2],
 };
 
 // What came of a scenario.
@@ -143,21 +137,13 @@ fn numbered_after(answers: &[Result<u32, Refusal>]) -> usize
     numbered
 }
 
-// The fate of a number, counted from 1; past the list all is lost.
-pub(crate) fn fate_of(fates: &[Fate], number: u32) -> Fate
-    ensures { result ≡ fate_of fates.now number }
-{
-    let i = (number as usize).saturating_sub(1);
-    if i < fates.len() { fates[i] } else { LOST }
-}
-
 // Whether each of the assignments arrived.
 fn arrivals_of(heap: Global, fates: &[Fate], sent: &[GrantEntry]) -> Result<Vec<bool>, AllocError>
     ensures { IfOk result (λ v. v.items ≡ map (arrives fates.now) sent.now) }
 {
     let mut arrived = Vec::new(heap);
     for e in sent {
-        arrived.push(fate_of(fates, e.number).arrived)?;
+        arrived.push(Fate::of(fates, e.number).arrived)?;
     }
     Ok(arrived)
 }
@@ -183,11 +169,13 @@ pub fn play(heap: Global, scenario: &Scenario) -> Result<Played, AllocError> {
     let mut slots = [Slot::One(false); 512];
     let mut digits = vec![in heap; b'0'; LONGEST]?;
     let mut sink = TextBits::new(digits.as_mut_slice());
-    let answer = exchange(
-        &scenario.config,
-        scenario.sps.as_slice(),
-        calls.as_slice(),
-        scenario.fates.as_slice(),
+    let batch = Batch {
+        config: &scenario.config,
+        sps: scenario.sps.as_slice(),
+        calls: calls.as_slice(),
+        fates: scenario.fates.as_slice(),
+    };
+    let answer = batch.exchange::<Plain, _>(
         sent.as_mut_slice(),
         marks.as_mut_slice(),
         &mut slots,

@@ -1,8 +1,9 @@
 // What happened in a scenario, section by section.
 use crate::lengths::tell_lengths;
-use crate::playing::{Played, fate_of};
+use crate::playing::Played;
 use crate::scenarios::{Request, Scenario};
 use crate::words::{format_text, mark_text, mode_text, refusal_text};
+use agreement::Fate;
 use gnb::{Counts, GrantEntry, Mark, Marks};
 use harq::{Config, Refusal};
 use link::Exchanged;
@@ -130,7 +131,7 @@ fn tell_sent<W: fmt::Write>(
             f,
             *arrived,
             blocks,
-            fate_of(scenario.fates.as_slice(), number).outcomes,
+            Fate::of(scenario.fates.as_slice(), number).outcomes,
         )?;
     }
     Ok(())

@@ -14,43 +14,35 @@ ghost use Rattle.tables.specs.Settled.{MarkedTold, AnswersTold, RefusalsTold};
 ghost use Rattle.tables.specs.Worked.{FieldsWorked, BatchesWorked, SlotsWorked};
 
 // DAI values, layouts by format, and fields coded and read.
-pub fn dai_told() -> u8
+pub fn dai_told()
     ensures numbers { NumbersTold }
     ensures fields { FieldsRead }
-{
-    0
-}
+{}
 
 // Batches with losses: their DAI fields, reports and slots, and both cards with the marks and counts.
-pub fn worked_batches() -> u8
+pub fn worked_batches()
     ensures fields { FieldsWorked }
     ensures reports { BatchesWorked }
     ensures slots { SlotsWorked }
     ensures exchanges { ExchangesWorked }
     ensures counts { CountsWorked }
-{
-    0
-}
+{}
 
 // Which slots a report has.
-pub fn counting_told() -> u8
+pub fn counting_told()
     ensures counters { CountersTold }
     ensures totals { TotalsTold }
     ensures uncounted { UncountedTold }
-{
-    0
-}
+{}
 
 // The bits of a place in each mode, and the SPS bits behind.
-pub fn bits_told() -> u8
+pub fn bits_told()
     ensures places { PlacesTold }
     ensures sps { SpsTold }
-{
-    0
-}
+{}
 
 // Each refusal, and each limit from both sides.
-pub fn refusals_told() -> u8
+pub fn refusals_told()
     ensures numbers { RefusalsNumbered }
     ensures configurations { ConfigurationsJudged }
     ensures arrivals { ArrivalsJudged }
@@ -60,41 +52,31 @@ pub fn refusals_told() -> u8
     ensures uncounted { UncountedJudged }
     ensures sps { SpsJudged }
     ensures whole { WholeJudged }
-{
-    0
-}
+{}
 
 // The first of two reasons in the order of the checks.
-pub fn first_fault_told() -> u8
+pub fn first_fault_told()
     ensures { FirstTold }
-{
-    0
-}
+{}
 
 // The limit of the length, and its place in the order of the checks.
-pub fn longest_told() -> u8
+pub fn longest_told()
     ensures one { OneBlockTold }
     ensures two { TwoBlocksTold }
     ensures order { LengthOrderTold }
-{
-    0
-}
+{}
 
 // The gNB: openings, numbering calls and their answers, which reason is told first, fields and lengths.
-pub fn numbering_told() -> u8
+pub fn numbering_told()
     ensures openings { OpeningsTold }
     ensures calls { CallsTold }
     ensures reasons { ReasonsTold }
     ensures sending { SendingTold }
-{
-    0
-}
+{}
 
 // Reports read at the gNB, whoever made them: marks and counts, whether a report answers, and why reading is declined.
-pub fn readings_told() -> u8
+pub fn readings_told()
     ensures marked { MarkedTold }
     ensures answers { AnswersTold }
     ensures refusals { RefusalsTold }
-{
-    0
-}
+{}

@@ -14,8 +14,8 @@ loop-e-preserved c =
     let came = arrives c.args.fates.now in
     let xs = c.args.sent.now in
     let i = c.loop-e.e-index in
-    pushed (c.fate_of.result.arrived ∷ []) c.loop-e.invariant c.in_ok-push.was c.push.ensures.items
-    ∙ ap (λ (f : Fate). map came (take i xs) ++ f.arrived ∷ []) c.fate_of.ensures
+    pushed (c.of.result.arrived ∷ []) c.loop-e.invariant c.in_ok-push.was c.push.ensures.items
+    ∙ ap (λ (f : Fate). map came (take i xs) ++ f.arrived ∷ []) c.of.ensures
     ∙ sym (map_more came xs i none c.loop-e-test.true)
 
 pub returns : goal.returns
