@@ -1,6 +1,7 @@
 pub mod Groups
 pub mod Steps
 pub mod Walk
-pub mod Choosing
+pub mod Occasions
+pub mod Said
 pub mod Shown
 pub mod Answering

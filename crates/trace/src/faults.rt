@@ -1,13 +1,15 @@
 // Why a trace is declined: the refusal, the layer that found it, and the place.
-ghost use Rattle.std.specs.Prelude.{◌≡◌};
+ghost use Rattle.std.specs.Prelude.{◌≡◌, Some, alloc_error};
 ghost use Rattle.trace.specs.Faults.{layer_number, broken_at};
+ghost use Rattle.trace.specs.Lines.{fault_bytes};
 ghost use Rattle.trace.specs.declared.faults.Failure.TheVariants as failure;
 
 use harq::Refusal;
 use std::alloc::{AllocError, AllocFailed};
+use std::fmt;
 
 // Who found the fault.
-#[derive(Clone, Copy, Debug, PartialEq)]
+#[derive(Clone, Copy, Debug, PartialEq, Eq)]
 pub enum Layer {
     // A number that is cut short, too large or not in its shortest form.
     Number,
@@ -17,12 +19,12 @@ pub enum Layer {
     Report,
 }
 
-impl Layer {
-    // The number by which the layer is told.
-    pub fn number(self) -> u32
-        ensures { result ≡ layer_number self }
-    {
-        match self {
+// The number by which a layer is told.
+impl From<Layer> for u32 {
+    ghost from_gives = { λ l n. n ≡ layer_number l };
+
+    fn from(layer: Layer) -> u32 {
+        match layer {
             Layer::Number => 1,
             Layer::Record => 2,
             Layer::Report => 3,
@@ -30,12 +32,24 @@ impl Layer {
     }
 }
 
-#[derive(Clone, Copy, Debug, PartialEq)]
+#[derive(Clone, Copy, Debug, PartialEq, Eq)]
 pub struct Fault {
     pub refusal: Refusal,
     pub layer: Layer,
     // The byte of the trace that the fault speaks of.
     pub offset: usize,
+}
+
+// The line of a fault, without its line feed.
+impl fmt::Display for Fault {
+    ghost output = { λ f. Some (fault_bytes f) };
+
+    fn fmt<W: fmt::Write>(&self, f: &mut fmt::Formatter<W>) -> fmt::Result {
+        let refusal = self.refusal.number();
+        let layer = u32::from(self.layer);
+        let offset = self.offset;
+        write!(f, "fault {refusal} {layer} {offset}")
+    }
 }
 
 // The trace is broken.
@@ -53,7 +67,7 @@ pub(crate) fn broken(layer: Layer, offset: usize) -> Fault
 #[derive(Debug, Drop)]
 pub enum Failure {
     Fault(Fault),
-    Memory,
+    Memory(AllocError),
 }
 
 impl From<Fault> for Failure {
@@ -65,17 +79,17 @@ impl From<Fault> for Failure {
 }
 
 impl From<AllocError> for Failure {
-    ghost from_gives = { λ _ r. r ≡ failure.Memory };
+    ghost from_gives = { λ e r. r ≡ failure.Memory e };
 
-    fn from(_e: AllocError) -> Failure {
-        Failure::Memory
+    fn from(e: AllocError) -> Failure {
+        Failure::Memory(e)
     }
 }
 
 impl<T: Drop> From<AllocFailed<T>> for Failure {
-    ghost from_gives = { λ _ r. r ≡ failure.Memory };
+    ghost from_gives = { λ _ r. r ≡ failure.Memory alloc_error };
 
-    fn from(_e: AllocFailed<T>) -> Failure {
-        Failure::Memory
+    fn from(e: AllocFailed<T>) -> Failure {
+        Failure::Memory(AllocError::from(e))
     }
 }

@@ -1,6 +1,6 @@
 // Records of a trace: kind, length and body, as parts of the input with their place.
 ghost use Rattle.std.specs.Prelude.{◌≡◌, ℕ, ◌<◌, ◌≤◌, length, drop, IfSome, IfOk};
-ghost use Rattle.trace.specs.Records.{field_at, fields_at, configuration_at, assignment_at, sps_at, body_at, may_stand, head_at, record_at, viewed, viewed_next};
+ghost use Rattle.trace.specs.Records.{entry_of, offset_of, field_at, fields_at, configuration_at, assignment_at, sps_at, body_at, may_stand, head_at, record_at, viewed, viewed_next};
 
 use super::faults::{Fault, Layer, broken};
 use super::numbers::read_number;
@@ -48,6 +48,19 @@ pub enum Record<'a> {
         slot: u32,
         outcome: u8,
     },
+}
+
+impl Record<'_> {
+    // The offset of its first byte.
+    pub fn offset(&self) -> usize
+        ensures { result ≡ offset_of (entry_of self.now) }
+    {
+        match *self {
+            Record::Configuration { at, .. }
+            | Record::Assignment { at, .. }
+            | Record::Sps { at, .. } => at,
+        }
+    }
 }
 
 // The bytes from `at` to the end of a body.
