@@ -2,7 +2,7 @@
 ghost use Rattle.std.specs.Prelude.{◌≡◌, map, IfOk, Option, slice_get, slice_index};
 ghost use Rattle.std.specs.List.{filter_map};
 ghost use Rattle.trace.specs.Records.{Entry, entry_of};
-ghost use Rattle.trace.specs.Batches.{numbers_from, config_of, config_in, arrival_of, sps_of, offsets_by, contents, Batched};
+ghost use Rattle.trace.specs.Batches.{numbers_from, no_config, config_of, config_in, arrival_of, sps_of, offsets_by, contents, Batched};
 
 use super::faults::Failure;
 use super::files::read_records;
@@ -11,15 +11,6 @@ use super::records::Record;
 use harq::{Config, SpsEntry};
 use std::alloc::{AllocError, Global};
 use ue::{Arrival, SpsOutcome};
-
-// A configuration that has nothing.
-const NO_CONFIG: Config = Config {
-    cells: 0,
-    occasions: 0,
-    width: 0,
-    mode: 0,
-    first: [0; 16],
-};
 
 #[derive(Drop)]
 pub struct Batch<'a> {
@@ -50,6 +41,13 @@ fn outcome_of(bytes: &[u8], block: usize) -> u8
     bytes.get(block).copied().unwrap_or(0)
 }
 
+// A configuration that has nothing.
+fn no_config() -> Config
+    ensures { result ≡ no_config }
+{
+    Config::default()
+}
+
 // The configuration that a record says, or none.
 fn config_of(source: &Record) -> Config
     ensures { result ≡ config_of (entry_of source.now) }
@@ -72,7 +70,7 @@ fn config_of(source: &Record) -> Config
                 first,
             }
         }
-        _ => NO_CONFIG,
+        _ => no_config(),
     }
 }
 
@@ -80,7 +78,7 @@ fn config_of(source: &Record) -> Config
 fn configuration(records: &[Record]) -> Config
     ensures { result ≡ config_in (map entry_of records.now) }
 {
-    records.first().map_or(NO_CONFIG, config_of)
+    records.first().map_or(no_config(), config_of)
 }
 
 // What a record of one kind says.

@@ -12,23 +12,19 @@ use std::fmt;
 #[derive(Clone, Copy, Debug, PartialEq, Eq)]
 pub enum Layer {
     // A number that is cut short, too large or not in its shortest form.
-    Number,
+    Number = 1,
     // A record of the wrong kind, or whose length or body is wrong.
-    Record,
+    Record = 2,
     // Records that the report declines.
-    Report,
+    Report = 3,
 }
 
-// The number by which a layer is told.
-impl From<Layer> for u32 {
-    ghost from_gives = { λ l n. n ≡ layer_number l };
-
-    fn from(layer: Layer) -> u32 {
-        match layer {
-            Layer::Number => 1,
-            Layer::Record => 2,
-            Layer::Report => 3,
-        }
+impl Layer {
+    // The number by which the layer is told.
+    pub fn number(self) -> u32
+        ensures { result ≡ layer_number self }
+    {
+        self as u32
     }
 }
 
@@ -46,7 +42,7 @@ impl fmt::Display for Fault {
 
     fn fmt<W: fmt::Write>(&self, f: &mut fmt::Formatter<W>) -> fmt::Result {
         let refusal = self.refusal.number();
-        let layer = u32::from(self.layer);
+        let layer = self.layer.number();
         let offset = self.offset;
         write!(f, "fault {refusal} {layer} {offset}")
     }
