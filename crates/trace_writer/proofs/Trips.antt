@@ -1,5 +1,5 @@
 -- A whole trace, written and read back. Assumes nothing.
-use Rattle.std.proofs.Common.{◌≡◌, ℕ, zero, suc, ◌+◌, ◌-◌, ◌^◌, ◌<◌, ◌≤◌, true, ◌&&◌, ltb, leb, List, [], ◌∷◌, ◌++◌, length, map, filter, take, drop, replicate, cond, is_some, Some, None, Ok, Option, Result, sym, refl, ap, ◌∙◌, append_assoc, add-zero, zero-add, arith, length-append, length-take}
+use Rattle.std.proofs.Common.{◌≡◌, ℕ, zero, suc, ◌+◌, ◌-◌, ◌^◌, ◌<◌, ◌≤◌, true, ◌&&◌, ltb, leb, List, [], ◌∷◌, ◌++◌, length, map, take, drop, replicate, cond, is_some, Some, None, Ok, Option, Result, sym, refl, ap, ◌∙◌, append_assoc, add-zero, zero-add, arith, length-append, length-take}
 use Rattle.std.specs.List.{flat_map, filter_map, cons_option, AllByRecursion}
 use Rattle.std.specs.Option.{option_map}
 use Rattle.std.proofs.ByRecursion.{All-take}
@@ -48,23 +48,21 @@ abbrev pub seconds : {X Y : Type 0} → List (X × Y) → List Y
 seconds = map (λ p. p.1)
 
 -- the parts of what f gives of entries with their offsets
+one_first : {X : Type 0} (at : ℕ) (o : Option X) (xs : List X) (ps : List (X × ℕ)) → xs ≡ firsts ps → cons_option o xs ≡ firsts (cons_option (option_map (λ x. (x, at)) o) ps)
+one_first at None xs ps h = h
+one_first at (Some x) xs ps h = ap (λ l. x ∷ l) h
+
 said_firsts : {X : Type 0} (f : Entry → Option X) (es : List Entry) → filter_map f es ≡ firsts (filter_map (placed_by f) es)
 said_firsts f [] = refl
-said_firsts f (e ∷ es) =
-    one (f e)
-  where
-    one : (o : Option X) → cons_option o (filter_map f es) ≡ firsts (cons_option (option_map (λ x. (x, offset_of e)) o) (filter_map (placed_by f) es))
-    one None = said_firsts f es
-    one (Some x) = ap (λ l. x ∷ l) (said_firsts f es)
+said_firsts f (e ∷ es) = one_first (offset_of e) (f e) _ _ (said_firsts f es)
+
+one_second : {X : Type 0} (e : Entry) (o : Option X) (es : List Entry) (ps : List (X × ℕ)) → map offset_of es ≡ seconds ps → map offset_of (cond (is_some o) (e ∷ es) es) ≡ seconds (cons_option (option_map (λ x. (x, offset_of e)) o) ps)
+one_second e None es ps h = h
+one_second e (Some x) es ps h = ap (λ l. offset_of e ∷ l) h
 
 said_seconds : {X : Type 0} (f : Entry → Option X) (es : List Entry) → offsets_by f es ≡ seconds (filter_map (placed_by f) es)
 said_seconds f [] = refl
-said_seconds f (e ∷ es) =
-    one (f e)
-  where
-    one : (o : Option X) → map offset_of (cond (is_some o) (e ∷ filter (λ d. is_some (f d)) es) (filter (λ d. is_some (f d)) es)) ≡ seconds (cons_option (option_map (λ x. (x, offset_of e)) o) (filter_map (placed_by f) es))
-    one None = said_seconds f es
-    one (Some x) = ap (λ l. offset_of e ∷ l) (said_seconds f es)
+said_seconds f (e ∷ es) = one_second e (f e) _ _ (said_seconds f es)
 
 -- a record that was read, by what it says
 pub record Read (bs : List ℕ) (at size : ℕ) (arrival : Option (Arrival × ℕ)) (sps-said : Option (SpsOutcome × ℕ)) : Type 0 where

@@ -1,6 +1,8 @@
 // Records of a trace: kind, length and body.
 ghost use Rattle.std.specs.Prelude.{◌≡◌, ℕ, ◌^◌, ◌<◌, ◌≤◌, List, ◌++◌, length, take, IfOk, vec_len, OnOk};
 ghost use Rattle.std.specs.List.{flat_map};
+ghost use Rattle.trace.specs.declared.kinds.Kind.{Kind as RecordKind};
+ghost use Rattle.trace.specs.declared.kinds.Kind.TheVariants as kind;
 ghost use Rattle.trace.specs.Kinds.{kind_number};
 ghost use Rattle.trace_writer.specs.Writing.{record_of, config_numbers, arrival_numbers, sps_numbers, config_body, arrival_body, sps_body};
 
@@ -15,8 +17,7 @@ fn up_to<T>(items: &[T], count: u32) -> &[T]
     ensures value { result.now ≡ take count items.now }
     ensures bound { length result.now ≤ length items.now }
 {
-    let end = (count as usize).min(items.len());
-    &items[0..end]
+    items.get(..count as usize).unwrap_or(items)
 }
 
 // The numbers of a configuration before the first occasions.
@@ -46,13 +47,12 @@ fn sps_numbers(sps: &SpsOutcome) -> [u32; 3]
 
 // What a trace has a record of.
 pub(crate) trait ToRecord {
-    ghost kind: { ℕ };
+    // The kind of its record.
+    const KIND: Kind;
+
+    ghost KIND: { RecordKind };
 
     ghost content: { Self → List ℕ };
-
-    // The kind of its record.
-    fn kind() -> Kind
-        ensures { kind_number result ≡ kind };
 
     // Its record's body.
     fn body(&self, heap: Global) -> Result<Vec<u8>, AllocError>
@@ -61,10 +61,10 @@ pub(crate) trait ToRecord {
 
     // Writes the record: kind, length of the body, body.
     fn write(&self, heap: Global, out: &mut Vec<u8>) -> Result<(), AllocError>
-        ensures { OnOk result (out.new.items ≡ out.old.items ++ record_of kind (content self.now)) }
+        ensures { OnOk result (out.new.items ≡ out.old.items ++ record_of (kind_number KIND) (content self.now)) }
     {
         let body = self.body(heap)?;
-        write_number(out, Self::kind().into())?;
+        write_number(out, u32::from(Self::KIND))?;
         write_number(out, body.len() as u32)?;
         out.extend_from_slice(body.as_slice())?;
         Ok(())
@@ -72,13 +72,11 @@ pub(crate) trait ToRecord {
 }
 
 impl ToRecord for Config {
-    ghost kind = { 1 };
+    const KIND: Kind = Kind::Configuration;
+
+    ghost KIND = { kind.Configuration };
 
     ghost content = { config_body };
-
-    fn kind() -> Kind {
-        Kind::Configuration
-    }
 
     // The limits, then the first occasion of each cell, of at most 16.
     fn body(&self, heap: Global) -> Result<Vec<u8>, AllocError> {
@@ -90,13 +88,11 @@ impl ToRecord for Config {
 }
 
 impl ToRecord for Arrival {
-    ghost kind = { 2 };
+    const KIND: Kind = Kind::Assignment;
+
+    ghost KIND = { kind.Assignment };
 
     ghost content = { arrival_body };
-
-    fn kind() -> Kind {
-        Kind::Assignment
-    }
 
     // Five numbers, then the outcome of each block, of at most two.
     fn body(&self, heap: Global) -> Result<Vec<u8>, AllocError> {
@@ -108,13 +104,11 @@ impl ToRecord for Arrival {
 }
 
 impl ToRecord for SpsOutcome {
-    ghost kind = { 3 };
+    const KIND: Kind = Kind::Sps;
+
+    ghost KIND = { kind.Sps };
 
     ghost content = { sps_body };
-
-    fn kind() -> Kind {
-        Kind::Sps
-    }
 
     // Three numbers, then the outcome.
     fn body(&self, heap: Global) -> Result<Vec<u8>, AllocError> {
@@ -131,7 +125,7 @@ pub(crate) fn write_each<T: ToRecord>(
     out: &mut Vec<u8>,
     items: &[T],
 ) -> Result<(), AllocError>
-    ensures { OnOk result (out.new.items ≡ out.old.items ++ flat_map (λ x. record_of T.ToRecord.kind (T.ToRecord.content x)) items.now) }
+    ensures { OnOk result (out.new.items ≡ out.old.items ++ flat_map (λ x. record_of (kind_number T.ToRecord.KIND) (T.ToRecord.content x)) items.now) }
 {
     for item in items {
         item.write(heap, out)?;

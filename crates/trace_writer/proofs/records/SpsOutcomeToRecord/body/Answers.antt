@@ -2,11 +2,11 @@ use Rattle.std.proofs.Common.{[], ◌∷◌, vec_items, refl, arith}
 use Rattle.std.proofs.lemmas.Slice.{pushed}
 use Rattle.trace_writer.specs.Writing.{sps_numbers}
 use Rattle.trace_writer.proofs.Appending.{body_is, body_short}
-use Rattle.trace_writer.proofs.records.sps_bytes.Goals as goal
+use Rattle.trace_writer.proofs.records.SpsOutcomeToRecord.body.Goals as goal
 
 pub returns : goal.returns
 returns c =
-    let s = c.args.sps.now in
+    let s = c.args.self.now in
     let out = s.outcome ∷ [] in
     let none = vec_items c.new-body.result in
     let numbers = vec_items c.write_numbers.new.out in

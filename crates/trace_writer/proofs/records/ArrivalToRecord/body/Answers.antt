@@ -1,11 +1,11 @@
 use Rattle.std.proofs.Common.{◌++◌, length, take, vec_items, ap, ◌∙◌, arith}
 use Rattle.trace_writer.specs.Writing.{arrival_numbers}
 use Rattle.trace_writer.proofs.Appending.{body_is, body_short}
-use Rattle.trace_writer.proofs.records.arrival_bytes.Goals as goal
+use Rattle.trace_writer.proofs.records.ArrivalToRecord.body.Goals as goal
 
 pub returns : goal.returns
 returns c =
-    let a = c.args.arrival.now in
+    let a = c.args.self.now in
     let out = take a.blocks a.outcomes in
     let none = vec_items c.new-body.result in
     let numbers = vec_items c.write_numbers.new.out in

@@ -3,11 +3,11 @@ use Rattle.std.specs.List.{flat_map}
 use Rattle.trace_writer.specs.Coding.{coded}
 use Rattle.trace_writer.specs.Writing.{config_numbers}
 use Rattle.trace_writer.proofs.Appending.{length_numbers, body_is, body_short}
-use Rattle.trace_writer.proofs.records.config_bytes.Goals as goal
+use Rattle.trace_writer.proofs.records.ConfigToRecord.body.Goals as goal
 
 pub returns : goal.returns
 returns c =
-    let k = c.args.config.now in
+    let k = c.args.self.now in
     let rest = flat_map coded (take k.cells k.first) in
     let none = vec_items c.new-body.result in
     let numbers = vec_items c.write_numbers.new.out in
