@@ -1,6 +1,7 @@
 -- Counting marks. Assumes nothing.
-use Rattle.std.proofs.Common.{◌≡◌, ℕ, ◌+◌, ◌<◌, ◌≤◌, List, [], ◌∷◌, ◌++◌, length, get_or, drop, sym, ap, ◌∙◌, arith}
+use Rattle.std.proofs.Common.{◌≡◌, ℕ, ◌+◌, ◌<◌, ◌≤◌, List, [], ◌∷◌, ◌++◌, length, get_or, drop, sym, refl, ap, ◌∙◌, arith}
 use Rattle.std.proofs.lemmas.List.{at_drop_more, at_drop_all}
+use Rattle.harq.specs.Words.{all_of}
 use Rattle.gnb.specs.declared.counts.Counts.{Counts}
 use Rattle.gnb.specs.declared.marks.Mark.{Mark}
 use Rattle.gnb.specs.declared.marks.Mark.TheVariants.{Negative, Delivered, Unanswered}
@@ -38,17 +39,19 @@ pub marks_few : (m : Marks) → length (marks_in m) ≤ 2
 marks_few (One a) = omega arith
 marks_few (Two a b) = omega arith
 
+pub marks_alone : (marks : List Mark) → all_of (λ m. marks_in (One m)) marks ≡ marks
+marks_alone [] = refl
+marks_alone (m ∷ marks) = ap (λ (l : List Mark). m ∷ l) (marks_alone marks)
+
 -- a loop that counts the marks of each element of a list
-module _ {X : Type 0} (F : List X → List Mark) (f : X → List Mark) (none : F [] ≡ []) (step : (x : X) (xs : List X) → F (x ∷ xs) ≡ f x ++ F xs)
-    (c all : Counts) (xs : List X) (i : ℕ) (inv : with_marks c (F (drop i xs)) ≡ all) where
-  pub count_more : (d : X) (c' : Counts) → i < length xs → c' ≡ with_marks c (f (get_or xs i d)) → with_marks c' (F (drop (i + 1) xs)) ≡ all
+module _ {X : Type 0} (f : X → List Mark) (c all : Counts) (xs : List X) (i : ℕ) (inv : with_marks c (all_of f (drop i xs)) ≡ all) where
+  pub count_more : (d : X) (c' : Counts) → i < length xs → c' ≡ with_marks c (f (get_or xs i d)) → with_marks c' (all_of f (drop (i + 1) xs)) ≡ all
   count_more d c' h is =
-      ap (λ (k : Counts). with_marks k (F (drop (i + 1) xs))) is ∙ with_more c (f (get_or xs i d)) (F (drop (i + 1) xs))
-      ∙ ap (with_marks c) (sym (step (get_or xs i d) (drop (i + 1) xs)))
-      ∙ sym (at_drop_more (λ ys. with_marks c (F ys)) xs i d h) ∙ inv
+      ap (λ (k : Counts). with_marks k (all_of f (drop (i + 1) xs))) is ∙ with_more c (f (get_or xs i d)) (all_of f (drop (i + 1) xs))
+      ∙ sym (at_drop_more (λ ys. with_marks c (all_of f ys)) xs i d h) ∙ inv
 
   with_none : with_marks c [] ≡ c
   with_none = counts_are c.granted _ _ _ _ _ _ (omega arith) (omega arith) (omega arith)
 
   pub count_all : length xs ≤ i → c ≡ all
-  count_all h = sym with_none ∙ ap (with_marks c) (sym none) ∙ sym (at_drop_all (λ ys. with_marks c (F ys)) xs i h) ∙ inv
+  count_all h = sym with_none ∙ sym (at_drop_all (λ ys. with_marks c (all_of f ys)) xs i h) ∙ inv

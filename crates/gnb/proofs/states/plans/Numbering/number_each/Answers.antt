@@ -1,7 +1,7 @@
 use Rattle.std.proofs.Common.{refl}
 use Rattle.gnb.specs.Sending.{batch_run, table_run}
 use Rattle.gnb.proofs.Planning.{run_more, run_all}
-use Rattle.gnb.proofs.states.Numbering.number_each.Goals as goal
+use Rattle.gnb.proofs.states.plans.Numbering.number_each.Goals as goal
 
 pub loop-call-preserved : goal.loop-call-preserved
 loop-call-preserved c =

@@ -2,7 +2,7 @@ use Rattle.std.proofs.Common.{ℕ, ◌+◌, length, Some, sym, ap, ◌∙◌}
 use Rattle.std.proofs.lemmas.Result.{err_from_is_err_and}
 use Rattle.gnb.specs.Calls.{answer_by, batch_by, table_by}
 use Rattle.gnb.proofs.Calling.{allowed_none, allowed_some, entries_stand}
-use Rattle.gnb.proofs.states.Numbering.number.Goals as goal
+use Rattle.gnb.proofs.states.calls.Numbering.number.Goals as goal
 
 pub returns-in_err-check_call : goal.returns-in_err-check_call
 returns-in_err-check_call c =
