@@ -7,11 +7,12 @@ use Rattle.conformance.specs.Hex.{byte_value, in_front, hex_bytes}
 abbrev pub behind : List ℕ → Option (List ℕ) → Option (List ℕ)
 behind front o = option_map (λ bs. front ++ bs) o
 
-hex_pair : (xs : List ℕ) → 2 ≤ length xs → hex_bytes xs ≡ in_front (byte_value (get_or xs 0 0) (get_or xs 1 0)) (hex_bytes (drop 2 xs))
+hex_pair : (pair after : List ℕ) → length pair ≡ 2 → hex_bytes (pair ++ after) ≡ in_front (byte_value (get_or pair 0 0) (get_or pair 1 0)) (hex_bytes after)
 unfolding hex_bytes
-hex_pair [] h = absurd (omega arith)
-hex_pair (high ∷ []) h = absurd (omega arith)
-hex_pair (high ∷ (low ∷ rest)) h = refl
+hex_pair [] after h = absurd (omega arith)
+hex_pair (high ∷ []) after h = absurd (omega arith)
+hex_pair (high ∷ (low ∷ [])) after h = refl
+hex_pair (high ∷ (low ∷ (more ∷ rest))) after h = absurd (omega arith)
 
 pub hex_one : (xs : List ℕ) → length xs < 2 → 0 < length xs → hex_bytes xs ≡ None
 unfolding hex_bytes
@@ -28,12 +29,16 @@ behind_more : (front : List ℕ) (b : ℕ) (o : Option (List ℕ)) → behind fr
 behind_more front b None = refl
 behind_more front b (Some bs) = ap Some (sym (append_assoc front (b ∷ []) bs))
 
--- one more byte
-pub pair_more : (text rest after front next : List ℕ) (o : Option ℕ) (b : ℕ) → hex_bytes text ≡ behind front (hex_bytes rest) → 2 ≤ length rest → o ≡ byte_value (get_or rest 0 0) (get_or rest 1 0) → o ≡ Some b → next ≡ front ++ b ∷ [] → after ≡ drop 2 rest → hex_bytes text ≡ behind next (hex_bytes after)
-pair_more text rest after front next o b inv h is some pushed left =
-    rw (pushed, left) (inv ∙ ap (behind front) (hex_pair rest h ∙ ap (λ p. in_front p (hex_bytes (drop 2 rest))) (sym is ∙ some)) ∙ behind_more front b (hex_bytes (drop 2 rest)))
+-- a pair of digits, with the bytes `front` before it
+module _ (text rest front pair after : List ℕ) (inv : hex_bytes text ≡ behind front (hex_bytes rest)) (split : rest ≡ pair ++ after) (two : length pair ≡ 2) (o : Option ℕ) (is : o ≡ byte_value (get_or pair 0 0) (get_or pair 1 0)) where
+  pair_is : hex_bytes text ≡ behind front (in_front o (hex_bytes after))
+  pair_is = inv ∙ ap (λ l. behind front (hex_bytes l)) split ∙ ap (behind front) (hex_pair pair after two ∙ ap (λ p. in_front p (hex_bytes after)) (sym is))
 
--- no byte
-pub pair_bad : (text rest front : List ℕ) (o : Option ℕ) → hex_bytes text ≡ behind front (hex_bytes rest) → 2 ≤ length rest → o ≡ byte_value (get_or rest 0 0) (get_or rest 1 0) → o ≡ None → hex_bytes text ≡ None
-pair_bad text rest front o inv h is none =
-    inv ∙ ap (behind front) (hex_pair rest h ∙ ap (λ p. in_front p (hex_bytes (drop 2 rest))) (sym is ∙ none))
+  -- one more byte
+  pub pair_more : (next : List ℕ) (b : ℕ) → o ≡ Some b → next ≡ front ++ b ∷ [] → hex_bytes text ≡ behind next (hex_bytes after)
+  pair_more next b some pushed =
+      pair_is ∙ ap (λ p. behind front (in_front p (hex_bytes after))) some ∙ behind_more front b (hex_bytes after) ∙ ap (λ l. behind l (hex_bytes after)) (sym pushed)
+
+  -- no byte
+  pub pair_bad : o ≡ None → hex_bytes text ≡ None
+  pair_bad none = pair_is ∙ ap (λ p. behind front (in_front p (hex_bytes after))) none

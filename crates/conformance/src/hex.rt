@@ -5,7 +5,7 @@ ghost use Rattle.conformance.specs.Hex.{digit_value, byte_value, hex_bytes, writ
 
 use std::alloc::{AllocError, Global};
 
-// The value of a digit, none where it is not one.
+// The value of a digit, none where it is not one; `to_digit` of a `char` answers a u32, which would be narrowed again.
 pub fn digit_value(c: u8) -> Option<u8>
     ensures { result ≡ digit_value c }
 {
@@ -21,9 +21,8 @@ pub fn digit_value(c: u8) -> Option<u8>
 fn byte_value(high: u8, low: u8) -> Option<u8>
     ensures { result ≡ byte_value high low }
 {
-    let (Some(high), Some(low)) = (digit_value(high), digit_value(low)) else {
-        return None;
-    };
+    let high = digit_value(high)?;
+    let low = digit_value(low)?;
     Some(high * 16 + low)
 }
 
@@ -32,19 +31,16 @@ pub fn decode_hex(heap: Global, digits: &[u8]) -> Result<Option<Vec<u8>>, AllocE
     ensures { IfOk result (λ o. option_map vec_items o ≡ hex_bytes digits.now) }
 {
     let mut bytes = Vec::new(heap);
-    let mut rest = digits;
-    while let [high, low, after @ ..] = rest {
+    for pair in digits.chunks(2) {
+        let [high, low] = pair else {
+            return Ok(None);
+        };
         let Some(byte) = byte_value(*high, *low) else {
             return Ok(None);
         };
         bytes.push(byte)?;
-        rest = after;
     }
-    if rest.is_empty() {
-        Ok(Some(bytes))
-    } else {
-        Ok(None)
-    }
+    Ok(Some(bytes))
 }
 
 // The bytes of a file: `-` for none, else their digits.

@@ -30,10 +30,7 @@ fn read_input(rt: &HostRuntime) -> anyhow::Result<String> {
 fn compare_lines(rt: &HostRuntime, text: &str) -> anyhow::Result<Tally>
     ensures { IfOk result (λ t. t.differ ≤ t.compared) }
 {
-    let mut tally = Tally {
-        compared: 0,
-        differ: 0,
-    };
+    let mut tally = Tally::default();
     for (i, line) in text.lines().enumerate() {
         let number = i + 1;
         let verdict = judge_line(rt.alloc(), line)?;

@@ -1,6 +1,6 @@
 // What no vector shows: a room or slots that are too small, a sink over a sink, bytes as they go on air, a difference.
 use crate::verdicts::judge_line;
-use harq::{Config, Refusal};
+use harq::{Config, Format, Refusal};
 use sink::{BitSink, PackedBits, Quota, TextBits};
 use std::process::Abort;
 use std::test::Fail;
@@ -23,7 +23,7 @@ fn decoded(cell: u32, occasion: u32, field: u32) -> Arrival {
     Arrival {
         cell,
         occasion,
-        format: 1,
+        format: u32::from(Format::OneOne),
         field,
         blocks: 1,
         outcomes: [1, 0],

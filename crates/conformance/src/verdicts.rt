@@ -1,7 +1,6 @@
 // What comparing a line comes to.
 ghost use Rattle.std.specs.Prelude.{◌≡◌, ◌+◌, ◌^◌, ◌<◌, ◌≤◌, IfOk, Some, string_bytes};
 ghost use Rattle.std.specs.Option.{option_map};
-ghost use Rattle.std.specs.Str.{bytes_eq};
 ghost use Rattle.conformance.specs.Vectors.{said};
 ghost use Rattle.conformance.specs.Hex.{written_bytes};
 ghost use Rattle.conformance.specs.Verdicts.{compared, trace_outcome, said_outcome, line_outcome, outcome_of, is_compared, is_difference, counted, outcome_text, tally_text};
@@ -57,7 +56,7 @@ impl fmt::Display for Verdict<'_> {
 }
 
 // How many lines were compared, and how many of them differ.
-#[derive(Clone, Copy)]
+#[derive(Clone, Copy, Default)]
 pub struct Tally {
     pub compared: usize,
     pub differ: usize,
@@ -85,18 +84,11 @@ impl fmt::Display for Tally {
     }
 }
 
-// Whether two texts are the same.
-fn is_same(a: &str, b: &str) -> bool
-    ensures { result ≡ bytes_eq a.now b.now }
-{
-    a == b
-}
-
 // What came beside what was expected.
 fn compare(expected: &str, came: String) -> Verdict<'_>
     ensures { outcome_of result ≡ compared expected.now (string_bytes came) }
 {
-    if is_same(came.as_str(), expected) {
+    if came.as_str() == expected {
         Verdict::Agrees
     } else {
         Verdict::Differs { expected, came }
@@ -131,8 +123,8 @@ pub fn judge_line(heap: Global, line: &str) -> Result<Verdict<'_>, AllocError>
     if is_passed_over(line) {
         return Ok(Verdict::PassedOver);
     }
-    match read_vector(line) {
-        Some(vector) => judge_vector(heap, vector),
-        None => Ok(Verdict::Malformed),
-    }
+    let Some(vector) = read_vector(line) else {
+        return Ok(Verdict::Malformed);
+    };
+    judge_vector(heap, vector)
 }

@@ -1,6 +1,8 @@
 pub mod Groups
 pub mod Steps
 pub mod Walk
-pub mod Choosing
+pub mod Occasions
+pub mod Said
+pub mod Defaults
 pub mod Shown
 pub mod Answering

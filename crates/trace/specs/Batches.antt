@@ -1,6 +1,7 @@
 -- What the UE has of a trace. Assumes nothing.
-use Rattle.std.specs.Prelude.{◌≡◌, ℕ, zero, suc, List, [], ◌∷◌, map, replicate, Some, None, Ok, Err, vec_items, Option, Result, Vec, slice_index}
-use Rattle.std.specs.declared.alloc.Global.{Global}
+use Rattle.std.specs.Prelude.{◌≡◌, ℕ, zero, suc, List, [], ◌∷◌, map, filter, is_some, replicate, Some, None, Ok, Err, vec_items, Option, Result, slice_index}
+use Rattle.std.specs.List.{filter_map}
+use Rattle.std.specs.Result.{result_unwrap_or}
 use Rattle.harq.specs.declared.configs.Config.{Config}
 use Rattle.ue.specs.declared.arrivals.Arrival.{Arrival}
 use Rattle.ue.specs.declared.arrivals.SpsOutcome.{SpsOutcome}
@@ -10,13 +11,12 @@ use Rattle.trace.specs.declared.faults.Failure.TheVariants as failure
 use Rattle.trace.specs.declared.faults.Fault.{Fault}
 use Rattle.trace.specs.Faults.{after}
 use Rattle.trace.specs.Numbers.{number_at}
-use Rattle.trace.specs.Records.{Entry, configuration, assignment, sps}
+use Rattle.trace.specs.Records.{Entry, entry_of, offset_of, configuration, assignment, sps}
 use Rattle.trace.specs.Files.{entries}
 
 -- what was read, or 0 and the same offset
 abbrev pub or_zero : ℕ → Result (ℕ × ℕ) Fault → ℕ × ℕ
-or_zero at (Ok p) = p
-or_zero at (Err e) = (0, at)
+or_zero at r = result_unwrap_or r (0, at)
 
 -- n numbers, read one behind the other, 0 where there is none left
 unfoldable pub numbers_from : ℕ → List ℕ → ℕ → List ℕ
@@ -42,39 +42,21 @@ abbrev pub config_in : List Entry → Config
 config_in [] = no_config
 config_in (e ∷ es) = config_of e
 
--- the arrival of a record, with its offset
-abbrev pub arrival_of : Entry → Option (Arrival × ℕ)
+-- the arrival of a record
+abbrev pub arrival_of : Entry → Option Arrival
 arrival_of (configuration at c m w mode from first) = None
-arrival_of (assignment at c m f d b from o) =
-    Some (record { cell = c; occasion = m; format = f; field = d; blocks = b; outcomes = outcomes_of o }, at)
+arrival_of (assignment at c m f d b from o) = Some (record { cell = c; occasion = m; format = f; field = d; blocks = b; outcomes = outcomes_of o })
 arrival_of (sps at c k s o) = None
 
--- the SPS reception of a record, with its offset
-abbrev pub sps_of : Entry → Option (SpsOutcome × ℕ)
+-- the SPS reception of a record
+abbrev pub sps_of : Entry → Option SpsOutcome
 sps_of (configuration at c m w mode from first) = None
 sps_of (assignment at c m f d b from o) = None
-sps_of (sps at c k s o) = Some (record { entry = record { cell = c; configuration = k; slot = s }; outcome = o }, at)
+sps_of (sps at c k s o) = Some (record { entry = record { cell = c; configuration = k; slot = s }; outcome = o })
 
--- an element, if there is one, before others
-abbrev pub if_some : {X : Type 0} → Option X → List X → List X
-if_some None xs = xs
-if_some (Some x) xs = x ∷ xs
-
--- what f gives of the elements that it takes, in their order
-abbrev pub chosen : {X Y : Type 0} → (X → Option Y) → List X → List Y
-chosen f [] = []
-chosen f (x ∷ xs) = if_some (f x) (chosen f xs)
-
--- the first parts of pairs, and the second
-abbrev pub firsts : {X Y : Type 0} → List (X × Y) → List X
-firsts = map (λ p. p.0)
-
-abbrev pub seconds : {X Y : Type 0} → List (X × Y) → List Y
-seconds = map (λ p. p.1)
-
--- two vectors that hold pairs apart
-abbrev pub Apart : {X Y : Type 0} → Vec X Global × Vec Y Global → List (X × Y) → Type 0
-Apart p xs = (vec_items p.0 ≡ firsts xs) × (vec_items p.1 ≡ seconds xs)
+-- the offsets of the records of which f gives something, in their order
+abbrev pub offsets_by : {X : Type 0} → (Entry → Option X) → List Entry → List ℕ
+offsets_by f es = map offset_of (filter (λ e. is_some (f e)) es)
 
 -- a batch: each list in the order of the file
 pub record Contents : Type 0 where
@@ -87,10 +69,10 @@ pub record Contents : Type 0 where
 abbrev pub contents_of : List Entry → Contents
 contents_of es = record {
   config = config_in es;
-  arrivals = firsts (chosen arrival_of es);
-  arrival_offsets = seconds (chosen arrival_of es);
-  sps = firsts (chosen sps_of es);
-  sps_offsets = seconds (chosen sps_of es);
+  arrivals = filter_map arrival_of es;
+  arrival_offsets = offsets_by arrival_of es;
+  sps = filter_map sps_of es;
+  sps_offsets = offsets_by sps_of es;
 }
 
 -- the batch of a trace, or its first fault
@@ -102,13 +84,13 @@ abbrev pub held : Batch → Contents
 held b = record {
   config = b.config;
   arrivals = vec_items b.arrivals;
-  arrival_offsets = vec_items b.arrival_offsets;
+  arrival_offsets = offsets_by arrival_of (map entry_of (vec_items b.records));
   sps = vec_items b.sps;
-  sps_offsets = vec_items b.sps_offsets;
+  sps_offsets = offsets_by sps_of (map entry_of (vec_items b.records));
 }
 
 -- what the reader of a batch answers; want of memory says nothing of the trace
 abbrev pub Batched : Result Batch Failure → Result Contents Fault → Type 0
 Batched (Ok b) t = t ≡ Ok (held b)
 Batched (Err (failure.Fault f)) t = t ≡ Err f
-Batched (Err failure.Memory) t = Unit {0}
+Batched (Err (failure.Memory e)) t = Unit {0}

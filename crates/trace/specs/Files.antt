@@ -31,4 +31,4 @@ entries bs = after (length_checked bs) (λ _. entries_from (suc (length bs)) bs 
 abbrev pub Told : Result (Vec Record Global) Failure → Result (List Entry) Fault → Type 0
 Told (Ok v) t = t ≡ Ok (map entry_of (vec_items v))
 Told (Err (failure.Fault f)) t = t ≡ Err f
-Told (Err failure.Memory) t = Unit {0}
+Told (Err (failure.Memory e)) t = Unit {0}

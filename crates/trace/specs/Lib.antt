@@ -1,6 +1,9 @@
 pub mod Faults
 pub mod Numbers
+pub mod Kinds
 pub mod Records
+pub mod Readers
+pub mod Heads
 pub mod Files
 pub mod Batches
 pub mod Lines

@@ -19,6 +19,12 @@ entry_of (held.Configuration at c m w mode f) = configuration at c m w mode f.at
 entry_of (held.Assignment at c m f d b o) = assignment at c m f d b o.at o.bytes.now
 entry_of (held.Sps at c k s o) = sps at c k s o
 
+-- the offset of a record
+abbrev pub offset_of : Entry → ℕ
+offset_of (configuration at c m w mode from first) = at
+offset_of (assignment at c m f d b from o) = at
+offset_of (sps at c k s o) = at
+
 -- a number in the body of the record at `at`: a body with no byte left is the record's fault
 abbrev pub field_at : List ℕ → ℕ → ℕ → Result (ℕ × ℕ) Fault
 field_at bs at next = cond (nat_lt next (length bs)) (number_at bs next) (Err (broken_at layer.Record at))

@@ -1,40 +1,30 @@
 // The report of a trace, and the line that is printed for it.
-ghost use Rattle.std.specs.Prelude.{◌≡◌, map, length, IfOk, string_bytes, slice_index_or};
+ghost use Rattle.std.specs.Prelude.{◌≡◌, map, length, IfOk, string_bytes};
 ghost use Rattle.sink.specs.Digits.{digit};
 ghost use Rattle.sink.specs.Written.{written};
 ghost use Rattle.ue.specs.Reports.{report_answer, gained_by};
 ghost use Rattle.trace.specs.Batches.{held};
 ghost use Rattle.trace.specs.Answers.{offset_of, batch_line, line_of};
 
-use super::batches::{Batch, read_batch};
+use super::batches::{Batch, nth_offset, read_batch};
 use super::faults::{Failure, Fault, Layer};
 use super::lines::{fault_line, report_line};
 use sink::TextBits;
 use std::alloc::{AllocError, Global};
-use ue::{Decline, Part, Slot, report_located};
+use ue::{Arrival, Decline, Part, Slot, SpsOutcome, report_located};
 
 // The longest report, in bits.
 const LONGEST: usize = 1706;
-
-// An offset of a list of them, or the end where there is none.
-fn offset_at(offsets: &[usize], index: usize, end: usize) -> usize
-    ensures { result ≡ slice_index_or offsets.now index end }
-{
-    if index < offsets.len() {
-        offsets[index]
-    } else {
-        end
-    }
-}
 
 // The place that a decline blames: the first byte of the record that failed, or the end of the trace.
 fn blamed_offset(batch: &Batch, end: usize, part: Part) -> usize
     ensures { result ≡ offset_of (held batch.now) end part }
 {
+    let records = batch.records.as_slice();
     match part {
         Part::Configuration => 0,
-        Part::Arrival(i) => offset_at(batch.arrival_offsets.as_slice(), i, end),
-        Part::Sps(i) => offset_at(batch.sps_offsets.as_slice(), i, end),
+        Part::Arrival(i) => nth_offset::<Arrival>(records, i).unwrap_or(end),
+        Part::Sps(i) => nth_offset::<SpsOutcome>(records, i).unwrap_or(end),
         Part::Whole => end,
     }
 }
@@ -83,6 +73,6 @@ pub fn answer(heap: Global, input: &[u8]) -> Result<String, AllocError>
     match read_batch(heap, input) {
         Ok(batch) => batch_line(heap, &batch, input.len()),
         Err(Failure::Fault(fault)) => fault_line(heap, fault),
-        Err(Failure::Memory) => Err(AllocError),
+        Err(Failure::Memory(e)) => Err(e),
     }
 }

@@ -1,8 +1,8 @@
-// What the UE has of a trace: the configuration, the arrivals and the SPS receptions, with the offsets of their records.
-ghost use Rattle.std.specs.Prelude.{◌≡◌, ℕ, [], ◌++◌, map, IfOk, Option, OnOk, slice_index};
-ghost use Rattle.trace.specs.Numbers.{number_at};
+// What the UE has of a trace: the configuration, the arrivals and the SPS receptions, beside the records that say them.
+ghost use Rattle.std.specs.Prelude.{◌≡◌, map, IfOk, Option, slice_get, slice_index};
+ghost use Rattle.std.specs.List.{filter_map};
 ghost use Rattle.trace.specs.Records.{Entry, entry_of};
-ghost use Rattle.trace.specs.Batches.{or_zero, numbers_from, config_of, config_in, arrival_of, sps_of, chosen, if_some, firsts, seconds, Apart, contents, Batched};
+ghost use Rattle.trace.specs.Batches.{numbers_from, no_config, config_of, config_in, arrival_of, sps_of, offsets_by, contents, Batched};
 
 use super::faults::Failure;
 use super::files::read_records;
@@ -12,34 +12,12 @@ use harq::{Config, SpsEntry};
 use std::alloc::{AllocError, Global};
 use ue::{Arrival, SpsOutcome};
 
-// A configuration that has nothing.
-const NO_CONFIG: Config = Config {
-    cells: 0,
-    occasions: 0,
-    width: 0,
-    mode: 0,
-    first: [0; 16],
-};
-
 #[derive(Drop)]
-pub struct Batch {
+pub struct Batch<'a> {
+    pub records: Vec<Record<'a>>,
     pub config: Config,
     pub arrivals: Vec<Arrival>,
-    // The offset of each arrival's record.
-    pub arrival_offsets: Vec<usize>,
     pub sps: Vec<SpsOutcome>,
-    // The offset of each SPS reception's record.
-    pub sps_offsets: Vec<usize>,
-}
-
-// The number at `at` and the offset after it, or 0 where there is none.
-fn number_or_zero(bytes: &[u8], at: usize) -> (u32, usize)
-    ensures { result ≡ or_zero at (number_at bytes.now at) }
-{
-    match read_number(bytes, at) {
-        Ok(read) => read,
-        Err(_) => (0, at),
-    }
 }
 
 // The first occasions as far as there are, at most 16, the others 0.
@@ -48,9 +26,9 @@ fn first_occasions(bytes: &[u8]) -> [u32; 16]
 {
     let mut first = [0; 16];
     let mut at = 0;
-    for cell in 0..16 {
-        let (occasion, next) = number_or_zero(bytes, at);
-        first[cell] = occasion;
+    for occasion in &mut first {
+        let (number, next) = read_number(bytes, at).unwrap_or((0, at));
+        *occasion = number;
         at = next;
     }
     first
@@ -60,7 +38,14 @@ fn first_occasions(bytes: &[u8]) -> [u32; 16]
 fn outcome_of(bytes: &[u8], block: usize) -> u8
     ensures { result ≡ slice_index bytes.now block }
 {
-    if block < bytes.len() { bytes[block] } else { 0 }
+    bytes.get(block).copied().unwrap_or(0)
+}
+
+// A configuration that has nothing.
+fn no_config() -> Config
+    ensures { result ≡ no_config }
+{
+    Config::default()
 }
 
 // The configuration that a record says, or none.
@@ -85,7 +70,7 @@ fn config_of(source: &Record) -> Config
                 first,
             }
         }
-        _ => NO_CONFIG,
+        _ => no_config(),
     }
 }
 
@@ -93,46 +78,39 @@ fn config_of(source: &Record) -> Config
 fn configuration(records: &[Record]) -> Config
     ensures { result ≡ config_in (map entry_of records.now) }
 {
-    if records.is_empty() {
-        return NO_CONFIG;
-    }
-    config_of(&records[0])
+    records.first().map_or(no_config(), config_of)
 }
 
 // What a record of one kind says.
-trait FromRecord {
-    ghost said: { Entry → Option (Self × ℕ) };
+pub(crate) trait FromRecord {
+    ghost said: { Entry → Option Self };
 
-    // What the record says, if it is of that kind, with its offset.
-    fn from_record(source: &Record) -> Option<(Self, usize)>
+    // What the record says, if it is of that kind.
+    fn from_record(source: &Record) -> Option<Self>
         ensures { result ≡ said (entry_of source.now) };
 }
 
 impl FromRecord for Arrival {
     ghost said = { arrival_of };
 
-    fn from_record(source: &Record) -> Option<(Arrival, usize)> {
+    fn from_record(source: &Record) -> Option<Arrival> {
         match source {
             Record::Assignment {
-                at,
                 cell,
                 occasion,
                 format,
                 field,
                 blocks,
                 outcomes,
-            } => {
-                let outcomes = [outcome_of(outcomes.bytes, 0), outcome_of(outcomes.bytes, 1)];
-                let arrival = Arrival {
-                    cell: *cell,
-                    occasion: *occasion,
-                    format: *format,
-                    field: *field,
-                    blocks: *blocks,
-                    outcomes,
-                };
-                Some((arrival, *at))
-            }
+                ..
+            } => Some(Arrival {
+                cell: *cell,
+                occasion: *occasion,
+                format: *format,
+                field: *field,
+                blocks: *blocks,
+                outcomes: [outcome_of(outcomes.bytes, 0), outcome_of(outcomes.bytes, 1)],
+            }),
             _ => None,
         }
     }
@@ -141,76 +119,60 @@ impl FromRecord for Arrival {
 impl FromRecord for SpsOutcome {
     ghost said = { sps_of };
 
-    fn from_record(source: &Record) -> Option<(SpsOutcome, usize)> {
+    fn from_record(source: &Record) -> Option<SpsOutcome> {
         match source {
             Record::Sps {
-                at,
                 cell,
                 configuration,
                 slot,
                 outcome,
-            } => {
-                let entry = SpsEntry {
+                ..
+            } => Some(SpsOutcome {
+                entry: SpsEntry {
                     cell: *cell,
                     configuration: *configuration,
                     slot: *slot,
-                };
-                Some((
-                    SpsOutcome {
-                        entry,
-                        outcome: *outcome,
-                    },
-                    *at,
-                ))
-            }
+                },
+                outcome: *outcome,
+            }),
             _ => None,
         }
     }
 }
 
-// Keeps what a record says, if it says something, and its offset.
-fn keep<T: Drop>(
-    values: &mut Vec<T>,
-    offsets: &mut Vec<usize>,
-    said: Option<(T, usize)>,
-) -> Result<(), AllocError>
-    ensures { OnOk result ((values.new.items ≡ values.old.items ++ firsts (if_some said [])) × (offsets.new.items ≡ offsets.old.items ++ seconds (if_some said []))) }
+// What the records of one kind say, in their order.
+fn said_by<T: FromRecord + Drop>(heap: Global, records: &[Record]) -> Result<Vec<T>, AllocError>
+    ensures { IfOk result (λ v. v.items ≡ filter_map (λ r. T.FromRecord.said (entry_of r)) records.now) }
 {
-    if let Some((value, at)) = said {
-        values.push(value)?;
-        offsets.push(at)?;
-    }
-    Ok(())
+    records
+        .iter()
+        .filter_map(|record| T::from_record(record))
+        .collect(heap)
 }
 
-// What the records of one kind say, in their order, and their offsets.
-fn collect<T: FromRecord + Drop>(
-    heap: Global,
-    records: &[Record],
-) -> Result<(Vec<T>, Vec<usize>), AllocError>
-    ensures { IfOk result (λ p. Apart p (chosen T.FromRecord.said (map entry_of records.now))) }
+// The offset of one of the records of that kind.
+pub(crate) fn nth_offset<T: FromRecord + Drop>(records: &[Record], index: usize) -> Option<usize>
+    ensures { result ≡ slice_get (offsets_by T.FromRecord.said (map entry_of records.now)) index }
 {
-    let mut values = Vec::new(heap);
-    let mut offsets = Vec::new(heap);
-    for record in records {
-        keep(&mut values, &mut offsets, T::from_record(record))?;
-    }
-    Ok((values, offsets))
+    records
+        .iter()
+        .filter(|record| T::from_record(*record).is_some())
+        .map(|record| record.offset())
+        .nth(index)
 }
 
 // The batch of a trace.
-pub fn read_batch(heap: Global, input: &[u8]) -> Result<Batch, Failure>
+pub fn read_batch<'a>(heap: Global, input: &'a [u8]) -> Result<Batch<'a>, Failure>
     ensures { Batched result (contents input.now) }
 {
     let records = read_records(heap, input)?;
     let config = configuration(records.as_slice());
-    let (arrivals, arrival_offsets) = collect(heap, records.as_slice())?;
-    let (sps, sps_offsets) = collect(heap, records.as_slice())?;
+    let arrivals = said_by(heap, records.as_slice())?;
+    let sps = said_by(heap, records.as_slice())?;
     Ok(Batch {
+        records,
         config,
         arrivals,
-        arrival_offsets,
         sps,
-        sps_offsets,
     })
 }

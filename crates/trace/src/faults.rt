@@ -1,20 +1,22 @@
 // Why a trace is declined: the refusal, the layer that found it, and the place.
-ghost use Rattle.std.specs.Prelude.{◌≡◌};
+ghost use Rattle.std.specs.Prelude.{◌≡◌, Some, alloc_error};
 ghost use Rattle.trace.specs.Faults.{layer_number, broken_at};
+ghost use Rattle.trace.specs.Lines.{fault_bytes};
 ghost use Rattle.trace.specs.declared.faults.Failure.TheVariants as failure;
 
 use harq::Refusal;
 use std::alloc::{AllocError, AllocFailed};
+use std::fmt;
 
 // Who found the fault.
-#[derive(Clone, Copy, Debug, PartialEq)]
+#[derive(Clone, Copy, Debug, PartialEq, Eq)]
 pub enum Layer {
     // A number that is cut short, too large or not in its shortest form.
-    Number,
+    Number = 1,
     // A record of the wrong kind, or whose length or body is wrong.
-    Record,
+    Record = 2,
     // Records that the report declines.
-    Report,
+    Report = 3,
 }
 
 impl Layer {
@@ -22,20 +24,28 @@ impl Layer {
     pub fn number(self) -> u32
         ensures { result ≡ layer_number self }
     {
-        match self {
-            Layer::Number => 1,
-            Layer::Record => 2,
-            Layer::Report => 3,
-        }
+        self as u32
     }
 }
 
-#[derive(Clone, Copy, Debug, PartialEq)]
+#[derive(Clone, Copy, Debug, PartialEq, Eq)]
 pub struct Fault {
     pub refusal: Refusal,
     pub layer: Layer,
     // The byte of the trace that the fault speaks of.
     pub offset: usize,
+}
+
+// The line of a fault, without its line feed.
+impl fmt::Display for Fault {
+    ghost output = { λ f. Some (fault_bytes f) };
+
+    fn fmt<W: fmt::Write>(&self, f: &mut fmt::Formatter<W>) -> fmt::Result {
+        let refusal = self.refusal.number();
+        let layer = self.layer.number();
+        let offset = self.offset;
+        write!(f, "fault {refusal} {layer} {offset}")
+    }
 }
 
 // The trace is broken.
@@ -53,7 +63,7 @@ pub(crate) fn broken(layer: Layer, offset: usize) -> Fault
 #[derive(Debug, Drop)]
 pub enum Failure {
     Fault(Fault),
-    Memory,
+    Memory(AllocError),
 }
 
 impl From<Fault> for Failure {
@@ -65,17 +75,17 @@ impl From<Fault> for Failure {
 }
 
 impl From<AllocError> for Failure {
-    ghost from_gives = { λ _ r. r ≡ failure.Memory };
+    ghost from_gives = { λ e r. r ≡ failure.Memory e };
 
-    fn from(_e: AllocError) -> Failure {
-        Failure::Memory
+    fn from(e: AllocError) -> Failure {
+        Failure::Memory(e)
     }
 }
 
 impl<T: Drop> From<AllocFailed<T>> for Failure {
-    ghost from_gives = { λ _ r. r ≡ failure.Memory };
+    ghost from_gives = { λ _ r. r ≡ failure.Memory alloc_error };
 
-    fn from(_e: AllocFailed<T>) -> Failure {
-        Failure::Memory
+    fn from(e: AllocFailed<T>) -> Failure {
+        Failure::Memory(AllocError::from(e))
     }
 }

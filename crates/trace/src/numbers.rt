@@ -30,16 +30,17 @@ pub fn read_number(bytes: &[u8], at: usize) -> Result<(u32, usize), Fault>
     ensures value { result ≡ number_at bytes.now at }
     ensures within { IfOk result (λ p. (at < p.1) × (p.1 ≤ length bytes.now)) }
 {
+    let groups = bytes.get(at..).unwrap_or(&[]);
     let mut value: u64 = 0;
     let mut weight: u64 = 1;
-    let mut next = at;
-    while next < bytes.len() && weight < LIMIT {
-        let byte = bytes[next];
-        next += 1;
-        if byte < 128 {
-            return close_number(at, next, value, weight, byte);
+    for (i, group) in groups.iter().enumerate() {
+        if weight >= LIMIT {
+            break;
         }
-        value += weight * u64::from(byte - 128);
+        if *group < 128 {
+            return close_number(at, at + i + 1, value, weight, *group);
+        }
+        value += weight * u64::from(*group - 128);
         weight *= 128;
     }
     Err(broken(Layer::Number, at))

@@ -1,5 +1,5 @@
 -- What is written piece by piece, and how long it is. Assumes nothing.
-use Rattle.std.proofs.Common.{◌≡◌, ℕ, zero, suc, ◌+◌, ◌-◌, ◌*◌, ◌/◌, ◌^◌, ◌<◌, ◌≤◌, min, List, [], ◌∷◌, ◌++◌, length, get_or, take, sym, ap, ◌∙◌, ⊎_elim, append_assoc, arith, length-append}
+use Rattle.std.proofs.Common.{◌≡◌, ℕ, zero, suc, ◌+◌, ◌*◌, ◌/◌, ◌^◌, ◌<◌, ◌≤◌, List, [], ◌∷◌, ◌++◌, length, get_or, take, sym, ap, ◌∙◌, ⊎_elim, append_assoc, arith, length-append}
 use Rattle.std.specs.List.{flat_map}
 use Rattle.std.proofs.lemmas.List.{flat_map_more, take_more, take_all}
 use Rattle.std.proofs.lemmas.Bool.{cases_lt}
@@ -14,11 +14,6 @@ module _ {X : Type 0} (f : X → List ℕ) (before so_far : List ℕ) (xs : List
 
   pub each_all : length xs ≤ i → so_far ≡ before ++ flat_map f xs
   each_all h = e ∙ ap (λ l. before ++ flat_map f l) (take_all i xs h)
-
--- the first n elements, or all (`&s[0..m]` is `take (m - 0)`)
-pub take_up_to : {X : Type 0} (n m : ℕ) (xs : List X) → m ≡ min n (length xs) → take (m - 0) xs ≡ take n xs
-take_up_to n m xs e =
-    ⊎_elim (λ lt. ap (λ k. take k xs) (omega arith)) (λ le. take_all (m - 0) xs (omega arith) ∙ sym (take_all n xs le)) (cases_lt n (length xs))
 
 -- three pieces behind something
 pub three_pieces : (o a b c x y z : List ℕ) → a ≡ o ++ x → b ≡ a ++ y → c ≡ b ++ z → c ≡ o ++ (x ++ (y ++ z))

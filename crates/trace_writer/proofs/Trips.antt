@@ -1,6 +1,7 @@
 -- A whole trace, written and read back. Assumes nothing.
-use Rattle.std.proofs.Common.{◌≡◌, ℕ, zero, suc, ◌+◌, ◌-◌, ◌^◌, ◌<◌, ◌≤◌, true, ◌&&◌, ltb, leb, List, [], ◌∷◌, ◌++◌, length, take, drop, replicate, Some, None, Ok, Option, sym, refl, ap, ◌∙◌, append_assoc, add-zero, zero-add, arith, length-append, length-take}
-use Rattle.std.specs.List.{flat_map, AllByRecursion}
+use Rattle.std.proofs.Common.{◌≡◌, ℕ, zero, suc, ◌+◌, ◌-◌, ◌^◌, ◌<◌, ◌≤◌, true, ◌&&◌, ltb, leb, List, [], ◌∷◌, ◌++◌, length, map, take, drop, replicate, cond, is_some, Some, None, Ok, Option, Result, sym, refl, ap, ◌∙◌, append_assoc, add-zero, zero-add, arith, length-append, length-take}
+use Rattle.std.specs.List.{flat_map, filter_map, cons_option, AllByRecursion}
+use Rattle.std.specs.Option.{option_map}
 use Rattle.std.proofs.ByRecursion.{All-take}
 use Rattle.std.proofs.lemmas.List.{take-append-drop, drop_at}
 use Rattle.std.proofs.lemmas.Bool.{cond-true, cond-false, le-ltb}
@@ -8,10 +9,11 @@ use Rattle.std.proofs.lemmas.Bool.Decides.{nat_tests}
 use Rattle.harq.specs.declared.configs.Config.{Config}
 use Rattle.ue.specs.declared.arrivals.Arrival.{Arrival}
 use Rattle.ue.specs.declared.arrivals.SpsOutcome.{SpsOutcome}
+use Rattle.trace.specs.declared.faults.Fault.{Fault}
 use Rattle.trace.specs.Faults.{after}
-use Rattle.trace.specs.Records.{Entry, configuration, assignment, sps, may_stand, record_at}
+use Rattle.trace.specs.Records.{Entry, offset_of, configuration, assignment, sps, may_stand, record_at}
 use Rattle.trace.specs.Files.{and_then, entries_from, entries}
-use Rattle.trace.specs.Batches.{numbers_from, outcomes_of, config_of, arrival_of, sps_of, if_some, chosen, firsts, seconds, Contents, contents_of}
+use Rattle.trace.specs.Batches.{numbers_from, outcomes_of, config_of, config_in, arrival_of, sps_of, offsets_by, Contents, contents_of}
 use Rattle.trace_writer.specs.Coding.{coded}
 use Rattle.trace_writer.specs.Writing.{record_of, config_numbers, arrival_numbers, config_body, arrival_body, sps_body, config_record, arrival_record, sps_record, trace_of}
 use Rattle.trace_writer.specs.Laws.{Padded, ConfigSayable, ArrivalSayable, SpsSayable, starts, batch_of, ReadsWritten}
@@ -34,12 +36,40 @@ two_outcomes (x ∷ []) h = refl
 two_outcomes (x ∷ y ∷ []) h = refl
 two_outcomes (x ∷ y ∷ z ∷ xs) h = absurd (omega arith)
 
+-- what f gives of an entry, with the entry's offset
+abbrev pub placed_by : {X : Type 0} → (Entry → Option X) → Entry → Option (X × ℕ)
+placed_by f e = option_map (λ x. (x, offset_of e)) (f e)
+
+-- the first parts of pairs, and the second
+abbrev pub firsts : {X Y : Type 0} → List (X × Y) → List X
+firsts = map (λ p. p.0)
+
+abbrev pub seconds : {X Y : Type 0} → List (X × Y) → List Y
+seconds = map (λ p. p.1)
+
+-- the parts of what f gives of entries with their offsets
+one_first : {X : Type 0} (at : ℕ) (o : Option X) (xs : List X) (ps : List (X × ℕ)) → xs ≡ firsts ps → cons_option o xs ≡ firsts (cons_option (option_map (λ x. (x, at)) o) ps)
+one_first at None xs ps h = h
+one_first at (Some x) xs ps h = ap (λ l. x ∷ l) h
+
+said_firsts : {X : Type 0} (f : Entry → Option X) (es : List Entry) → filter_map f es ≡ firsts (filter_map (placed_by f) es)
+said_firsts f [] = refl
+said_firsts f (e ∷ es) = one_first (offset_of e) (f e) _ _ (said_firsts f es)
+
+one_second : {X : Type 0} (e : Entry) (o : Option X) (es : List Entry) (ps : List (X × ℕ)) → map offset_of es ≡ seconds ps → map offset_of (cond (is_some o) (e ∷ es) es) ≡ seconds (cons_option (option_map (λ x. (x, offset_of e)) o) ps)
+one_second e None es ps h = h
+one_second e (Some x) es ps h = ap (λ l. offset_of e ∷ l) h
+
+said_seconds : {X : Type 0} (f : Entry → Option X) (es : List Entry) → offsets_by f es ≡ seconds (filter_map (placed_by f) es)
+said_seconds f [] = refl
+said_seconds f (e ∷ es) = one_second e (f e) _ _ (said_seconds f es)
+
 -- a record that was read, by what it says
 pub record Read (bs : List ℕ) (at size : ℕ) (arrival : Option (Arrival × ℕ)) (sps-said : Option (SpsOutcome × ℕ)) : Type 0 where
   pub entry : Entry
   pub is : record_at bs at ≡ Ok (Some (entry, at + size))
-  pub arrival_is : arrival_of entry ≡ arrival
-  pub sps_is : sps_of entry ≡ sps-said
+  pub arrival_is : placed_by arrival_of entry ≡ arrival
+  pub sps_is : placed_by sps_of entry ≡ sps-said
 
 module _ (bs : List ℕ) (short : length bs ≤ 65536) where
   body_short : (at kind : ℕ) (body rest : List ℕ) → drop at bs ≡ record_of kind body ++ rest → length body < 2 ^ 32
@@ -88,8 +118,8 @@ module _ (bs : List ℕ) (short : length bs ≤ 65536) where
 pub record Rest (n : ℕ) (bs : List ℕ) (at : ℕ) (arrivals : List (Arrival × ℕ)) (receptions : List (SpsOutcome × ℕ)) : Type 0 where
   pub found : List Entry
   pub is : entries_from n bs at ≡ Ok found
-  pub arrivals_are : chosen arrival_of found ≡ arrivals
-  pub receptions_are : chosen sps_of found ≡ receptions
+  pub arrivals_are : filter_map (placed_by arrival_of) found ≡ arrivals
+  pub receptions_are : filter_map (placed_by sps_of) found ≡ receptions
 
 rest_none : (n : ℕ) (bs : List ℕ) (at : ℕ) → 0 < n → 0 < at → length bs ≤ at → Rest n bs at [] []
 rest_none zero bs at some h e = absurd (omega arith)
@@ -102,12 +132,12 @@ rest_none (suc n) bs at some h e =
       receptions_are = refl;
     }
 
-rest_more : (n : ℕ) (bs : List ℕ) (at size : ℕ) (arrival : Option (Arrival × ℕ)) (reception : Option (SpsOutcome × ℕ)) (arrivals : List (Arrival × ℕ)) (receptions : List (SpsOutcome × ℕ)) → Read bs at size arrival reception → Rest n bs (at + size) arrivals receptions → Rest (suc n) bs at (if_some arrival arrivals) (if_some reception receptions)
+rest_more : (n : ℕ) (bs : List ℕ) (at size : ℕ) (arrival : Option (Arrival × ℕ)) (reception : Option (SpsOutcome × ℕ)) (arrivals : List (Arrival × ℕ)) (receptions : List (SpsOutcome × ℕ)) → Read bs at size arrival reception → Rest n bs (at + size) arrivals receptions → Rest (suc n) bs at (cons_option arrival arrivals) (cons_option reception receptions)
 rest_more n bs at size arrival reception arrivals receptions r more = record {
   found = r.entry ∷ more.found;
   is = ap (λ q. after q (and_then (entries_from n bs))) r.is ∙ ap (λ q. after q (λ es. Ok (r.entry ∷ es))) more.is;
-  arrivals_are = ap (λ o. if_some o (chosen arrival_of more.found)) r.arrival_is ∙ ap (if_some arrival) more.arrivals_are;
-  receptions_are = ap (λ o. if_some o (chosen sps_of more.found)) r.sps_is ∙ ap (if_some reception) more.receptions_are;
+  arrivals_are = ap (λ o. cons_option o (filter_map (placed_by arrival_of) more.found)) r.arrival_is ∙ ap (cons_option arrival) more.arrivals_are;
+  receptions_are = ap (λ o. cons_option o (filter_map (placed_by sps_of) more.found)) r.sps_is ∙ ap (cons_option reception) more.receptions_are;
 }
 
 -- each element with the offset of its record
@@ -161,6 +191,17 @@ made_of g xs ss = record {
   sps_offsets = seconds ss;
 }
 
+-- a batch by its entries
+contents_placed : (es : List Entry) → ◌≡◌ {A = Result Contents Fault} (Ok (contents_of es)) (Ok (made_of (config_in es) (filter_map (placed_by arrival_of) es) (filter_map (placed_by sps_of) es)))
+contents_placed es =
+    let g = config_in es in
+    let ps = filter_map (placed_by arrival_of) es in
+    let qs = filter_map (placed_by sps_of) es in
+    ap (λ l. Ok (record { config = g; arrivals = l; arrival_offsets = offsets_by arrival_of es; sps = filter_map sps_of es; sps_offsets = offsets_by sps_of es })) (said_firsts arrival_of es)
+    ∙ ap (λ l. Ok (record { config = g; arrivals = firsts ps; arrival_offsets = l; sps = filter_map sps_of es; sps_offsets = offsets_by sps_of es })) (said_seconds arrival_of es)
+    ∙ ap (λ l. Ok (record { config = g; arrivals = firsts ps; arrival_offsets = seconds ps; sps = l; sps_offsets = offsets_by sps_of es })) (said_firsts sps_of es)
+    ∙ ap (λ l. Ok (record { config = g; arrivals = firsts ps; arrival_offsets = seconds ps; sps = firsts qs; sps_offsets = l })) (said_seconds sps_of es)
+
 made_placed : (g : Config) (xs : List Arrival) (ss : List SpsOutcome) → made_of g (placed arrival_record (length (config_record g)) xs) (placed sps_record (length (config_record g) + length (flat_map arrival_record xs)) ss) ≡ batch_of g xs ss
 made_placed g xs ss =
     let at = length (config_record g) in
@@ -197,7 +238,8 @@ reads_written g xs ss say says receptions short =
     ∙ ap (λ r. after r (and_then (entries_from (length bs) bs))) head
     ∙ ap (λ r. after r (λ es. Ok (e ∷ es))) more.is in
     ap (λ r. after r (λ es. Ok (contents_of es))) found
-    ∙ ap (λ k. Ok (made_of k (chosen arrival_of more.found) (chosen sps_of more.found))) (config_said g from say)
-    ∙ ap (λ l. Ok (made_of g l (chosen sps_of more.found))) more.arrivals_are
+    ∙ contents_placed (e ∷ more.found)
+    ∙ ap (λ k. Ok (made_of k (filter_map (placed_by arrival_of) more.found) (filter_map (placed_by sps_of) more.found))) (config_said g from say)
+    ∙ ap (λ l. Ok (made_of g l (filter_map (placed_by sps_of) more.found))) more.arrivals_are
     ∙ ap (λ l. Ok (made_of g (placed arrival_record size xs) l)) more.receptions_are
     ∙ ap Ok (made_placed g xs ss)

@@ -1,13 +1,19 @@
-use Rattle.std.proofs.Common.{arith}
+use Rattle.std.proofs.Common.{◌<◌, ap, ◌∙◌, arith}
 use Rattle.std.proofs.lemmas.List.{length-set}
-use Rattle.trace.proofs.Choosing.{occasions_more, occasions_all}
+use Rattle.trace.specs.Batches.{or_zero}
+use Rattle.trace.proofs.Occasions.{occasions_more, occasions_all}
 use Rattle.trace.proofs.batches.first_occasions.Goals as goal
 
-pub loop-cell-preserved : goal.loop-cell-preserved
-loop-cell-preserved c = (
-  simp length-set (omega arith),
-  occasions_more c.loop-cell.first c.args.bytes.now _ c.loop-cell.cell c.loop-cell.at c.loop-cell.invariant.0 c.loop-cell.invariant.1 c.number_or_zero-occasion.result c.loop-cell-test.true c.number_or_zero-occasion.ensures,
-)
+pub loop-occasion-preserved : goal.loop-occasion-preserved
+loop-occasion-preserved c =
+    let l = c.loop-occasion in
+    let few : l.occasion-index < 16 = omega (arith, c.loop-occasion-test.true) in
+    (
+      simp length-set (omega arith),
+      occasions_more l.occasion-items c.args.bytes.now _ l.occasion-index l.at l.invariant.0 l.invariant.1 c.unwrap_or-number.result few (c.unwrap_or-number.ensures ∙ ap (or_zero l.at) c.read_number.ensures.value),
+    )
 
 pub returns : goal.returns
-returns c = occasions_all c.loop-cell.first c.args.bytes.now _ c.loop-cell.cell c.loop-cell.at c.loop-cell.invariant.0 c.loop-cell.invariant.1 c.loop-cell-test.false
+returns c =
+    let l = c.loop-occasion in
+    occasions_all l.occasion-items c.args.bytes.now _ l.occasion-index l.at l.invariant.0 l.invariant.1 (omega arith)
