@@ -1,5 +1,6 @@
 // The configuration that UE and gNB share.
-ghost use Rattle.std.specs.Prelude.{◌≡◌};
+ghost use Rattle.std.specs.Prelude.{◌≡◌, nat_le};
+ghost use Rattle.std.specs.List.{list_all};
 ghost use Rattle.harq.specs.Configs.{numbers_within, config_within, span, bits_per_place, layout_wide, layout_of, read_dai, blocks_within, in_range, counts};
 
 use crate::formats::Format;
@@ -19,6 +20,12 @@ pub struct Config {
     pub mode: u32,
     // Per cell the first occasion that counts after a bandwidth part change; from `cells` on not looked at.
     pub first: [u32; 16],
+}
+
+fn all_up_to(firsts: &[u32], limit: u32) -> bool
+    ensures { result ≡ list_all (λ f. nat_le f limit) firsts.now }
+{
+    firsts.iter().all(|f| *f <= limit)
 }
 
 // The layout of format 1_2's field, by its width.
@@ -47,10 +54,7 @@ impl Config {
     pub fn is_within(&self) -> bool
         ensures { result ≡ config_within self.now }
     {
-        self.numbers_within()
-            && self.first[..self.cells as usize]
-                .iter()
-                .all(|f| *f <= self.occasions)
+        self.numbers_within() && all_up_to(&self.first[..self.cells as usize], self.occasions)
     }
 
     // How many values the counter DAI has.
