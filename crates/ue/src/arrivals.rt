@@ -5,7 +5,8 @@ use harq::SpsEntry;
 use harq::sps::SpsListed;
 
 // A DCI assignment that arrived, with the outcomes of its blocks (1 ACK, 0 NACK); only the first `blocks` of them count.
-#[derive(Clone, Copy, Debug)]
+// All are plain numbers, since a card gets any number: the checks refuse a format, a block count or an outcome that is none.
+#[derive(Clone, Copy, Debug, Default, PartialEq, Eq)]
 pub struct Arrival {
     pub cell: u32,
     pub occasion: u32,
@@ -19,7 +20,7 @@ pub struct Arrival {
 }
 
 // An SPS reception with its outcome.
-#[derive(Clone, Copy, Debug)]
+#[derive(Clone, Copy, Debug, Default, PartialEq, Eq)]
 pub struct SpsOutcome {
     pub entry: SpsEntry,
     pub outcome: u8,
