@@ -7,7 +7,7 @@ use super::records::{Record, next_record};
 use std::alloc::Global;
 
 // The longest trace, in bytes.
-const LONGEST: usize = 65_536;
+pub const LONGEST: usize = 65_536;
 
 fn check_length(input: &[u8]) -> Result<(), Fault>
     ensures { result ≡ length_checked input.now }
