@@ -52,7 +52,7 @@ impl fmt::Display for Refusal {
             Refusal::Configuration => "configuration out of limits",
             Refusal::Range => "cell or occasion out of range",
             Refusal::Order => "order not strictly rising",
-            Refusal::Field => "format barred",
+            Refusal::Field => "format unknown or barred, or DAI field too wide",
             Refusal::Blocks => "block count or outcome out of limits",
             Refusal::Totals => "totals differ in one occasion",
             Refusal::Sps => "SPS list out of limits or order",
@@ -60,7 +60,7 @@ impl fmt::Display for Refusal {
             Refusal::Room => "no room for the report",
             Refusal::Early => "grant before its cell's first counted occasion",
             Refusal::Trace => "trace broken",
-            Refusal::Table => "grant table too short",
+            Refusal::Table => "lent table too short",
             Refusal::Place => "place past the report",
         })
     }
