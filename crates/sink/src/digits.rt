@@ -1,5 +1,6 @@
 // Bits as the digits '0' and '1' in lent bytes.
 ghost use Rattle.std.specs.Prelude.{◌≡◌, [], length};
+ghost use Rattle.sink.specs.Digits.{digit};
 ghost use Rattle.sink.specs.Ends.{text_taken, text_room, TextTook};
 
 use crate::BitSink;
@@ -35,7 +36,7 @@ impl BitSink for TextBits<'_> {
             return Err(Refusal::Room);
         }
         // By index, since a proof knows no element of a slice after its `get_mut`.
-        self.bytes[self.used] = if bit { b'1' } else { b'0' };
+        self.bytes[self.used] = digit_of(bit);
         self.used += 1;
         Ok(())
     }
@@ -44,4 +45,10 @@ impl BitSink for TextBits<'_> {
     fn room_left(&self) -> usize {
         self.bytes.len().saturating_sub(self.used)
     }
+}
+
+fn digit_of(bit: bool) -> u8
+    ensures { result ≡ digit bit }
+{
+    if bit { b'1' } else { b'0' }
 }
