@@ -1,4 +1,4 @@
-// What the gNB's card holds of a batch: plain numbers.
+// What the gNB's card holds of a batch: plain numbers, so that contracts compare it by equality.
 use harq::Config;
 
 #[derive(Drop)]

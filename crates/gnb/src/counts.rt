@@ -28,7 +28,7 @@ impl Counts {
         }
     }
 
-    // With one mark more.
+    // With one mark more. This and the next two ask for room for what they add: a count that callers make up has no bound of its own.
     fn with_mark(self, mark: Mark) -> Counts
         requires { marked self < 4096 }
         ensures { result ≡ with_marks self (mark ∷ []) }

@@ -5,7 +5,7 @@ use crate::marks::Marks;
 #[derive(Clone, Copy, Debug, Default)]
 pub struct Grant {
     pub cell: u32,
-    // 0: 1_0, 1: 1_1, 2: 1_2.
+    // 0: 1_0, 1: 1_1, 2: 1_2. Any number may come, and another is refused.
     pub format: u32,
     // Transport blocks; 0 is an SPS release or a dormancy message.
     pub blocks: u32,
