@@ -18,7 +18,7 @@ pub fn is_passed_over(line: &str) -> bool
     line.is_empty() || line.starts_with('#')
 }
 
-// What stands before and behind the first place of the mark, none where it stands nowhere.
+// What stands before and behind the first place of the mark, none where it stands nowhere; `split_once` says it by a relation.
 fn split_at<'a>(text: &'a str, mark: &str) -> Option<(&'a str, &'a str)>
     ensures { option_map both_texts result ≡ split_at mark.now text.now }
 {

@@ -11,10 +11,7 @@ use super::faults::{Failure, Fault, Layer};
 use super::lines::{fault_line, report_line};
 use sink::TextBits;
 use std::alloc::{AllocError, Global};
-use ue::{Arrival, Decline, Part, Slot, SpsOutcome, report_located};
-
-// The longest report, in bits.
-const LONGEST: usize = 1706;
+use ue::{Arrival, Decline, LONGEST_REPORT, Part, Slot, SpsOutcome, report_located};
 
 // The place that a decline blames: the first byte of the record that failed, or the end of the trace.
 fn blamed_offset(batch: &Batch, end: usize, part: Part) -> usize
@@ -34,7 +31,7 @@ fn report_digits(batch: &Batch, digits: &mut [u8]) -> Result<usize, Decline>
     ensures answer { result ≡ report_answer batch.now.config batch.now.arrivals.items batch.now.sps.items 1706 (length digits.old) }
     ensures digits { digits.new ≡ written digits.old 0 (map digit (gained_by batch.now.config batch.now.arrivals.items batch.now.sps.items result)) }
 {
-    let mut slots = [Slot::One(false); LONGEST];
+    let mut slots = [Slot::One(false); LONGEST_REPORT];
     let mut sink = TextBits::new(digits);
     report_located(
         &batch.config,
@@ -49,7 +46,7 @@ fn report_digits(batch: &Batch, digits: &mut [u8]) -> Result<usize, Decline>
 fn batch_line(heap: Global, batch: &Batch, end: usize) -> Result<String, AllocError>
     ensures { IfOk result (λ s. string_bytes s ≡ batch_line (held batch.now) end) }
 {
-    let mut digits = [b'0'; LONGEST];
+    let mut digits = [b'0'; LONGEST_REPORT];
     match report_digits(batch, &mut digits) {
         Ok(length) => report_line(heap, length, &digits[0..length]),
         Err(decline) => {

@@ -81,7 +81,7 @@ fn configuration(records: &[Record]) -> Config
     records.first().map_or(no_config(), config_of)
 }
 
-// What a record of one kind says.
+// What a record of one kind says; the error of a `TryFrom` is one that nothing would read.
 pub(crate) trait FromRecord {
     ghost said: { Entry → Option Self };
 

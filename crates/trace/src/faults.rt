@@ -66,6 +66,7 @@ pub enum Failure {
     Memory(AllocError),
 }
 
+// By hand, since contracts name the failure that `?` makes.
 impl From<Fault> for Failure {
     ghost from_gives = { λ f r. r ≡ failure.Fault f };
 

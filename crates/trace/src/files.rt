@@ -25,6 +25,7 @@ pub fn read_records<'a>(heap: Global, input: &'a [u8]) -> Result<Vec<Record<'a>>
     check_length(input)?;
     let mut records = Vec::new(heap);
     let mut at = 0;
+    // An iterator of results would have to say what it yields behind a fault.
     while let Some((record, next)) = next_record(input, at)? {
         records.push(record)?;
         at = next;

@@ -16,6 +16,7 @@ fn lowest_group(rest: u32) -> u8
 pub fn write_number(out: &mut Vec<u8>, value: u32) -> Result<(), AllocError>
     ensures { OnOk result (out.new.items ≡ out.old.items ++ coded value) }
 {
+    // Each turn divides what is left, which no iterator of the library yields.
     let mut rest = value;
     while rest >= 128 {
         out.push(lowest_group(rest))?;
@@ -25,7 +26,7 @@ pub fn write_number(out: &mut Vec<u8>, value: u32) -> Result<(), AllocError>
     Ok(())
 }
 
-// Writes numbers one behind the other.
+// Writes numbers one behind the other; a trait over this and `write_each` would be longer than the loop.
 pub(crate) fn write_numbers(out: &mut Vec<u8>, values: &[u32]) -> Result<(), AllocError>
     ensures { OnOk result (out.new.items ≡ out.old.items ++ flat_map coded values.now) }
 {
