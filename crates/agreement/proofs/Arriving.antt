@@ -1,6 +1,6 @@
 -- What arrives of what is sent: each arrival passes the UE's checks, and the counters are those of the numbers that arrived. Assumes nothing.
 use Rattle.std.proofs.Common.{◌≡◌, ℕ, ◌+◌, ◌<◌, ◌≤◌, Bool, true, false, cond, ◌&&◌, ◌||◌, eqb, ltb, leb, List, [], ◌∷◌, ◌++◌, map, length, is_some, Some, None, Option, sym, refl, ap, ◌∙◌, subst, ap₂, inl, inr, ⊎_elim, arith}
-use Rattle.std.specs.List.{AllByRecursion}
+use Rattle.std.specs.List.{AllByRecursion, list_any}
 use Rattle.std.proofs.ByRecursion.{All-push, All-weaker}
 use Rattle.std.proofs.lemmas.Bool.{cases_lt, lt-ltb, le-leb, eq-eqb, eqb-true, and_from, and_right, or_left, or_right, not_from_true, cond-false}
 use Rattle.dai.specs.Values.{value}
@@ -17,7 +17,7 @@ use Rattle.gnb.specs.Sending.{Assignment, ReadsBack}
 use Rattle.gnb.proofs.Order.{Sendable, Above, InOrder}
 use Rattle.agreement.specs.declared.fates.Fate.{Fate}
 use Rattle.agreement.specs.Fates.{fate_of, outcome, arrival_of, arrivals_of}
-use Rattle.agreement.proofs.Picked.{those_all, any_of}
+use Rattle.agreement.proofs.Picked.{those_all}
 use Rattle.agreement.proofs.Sendings.{number_of, Row}
 
 -- a row in order stays so when some are lost
@@ -73,9 +73,9 @@ module _ (g : Config) (T : ℕ → ℕ) where
       ap₂ or_else here is ∙ or_same (carries_total g a.format) c (value (span g) (T m))
   total_step m a c rest good is false e = is
 
-  pub total_at_is : (m : ℕ) (xs : List Arrival) → AllByRecursion (Good g T) xs → total_at g m xs ≡ cond (any_of (tells g m) xs) (Some (value (span g) (T m))) None
+  pub total_at_is : (m : ℕ) (xs : List Arrival) → AllByRecursion (Good g T) xs → total_at g m xs ≡ cond (list_any (tells g m) xs) (Some (value (span g) (T m))) None
   total_at_is m [] all = refl
-  total_at_is m (a ∷ xs) all = total_step m a (any_of (tells g m) xs) (total_at g m xs) all.0 (total_at_is m xs all.1) (eqb a.occasion m) refl
+  total_at_is m (a ∷ xs) all = total_step m a (list_any (tells g m) xs) (total_at g m xs) all.0 (total_at_is m xs all.1) (eqb a.occasion m) refl
 
   -- every arrival counts
   pub counted_is : (xs : List Arrival) → AllByRecursion (Good g T) xs → counted g xs ≡ xs
@@ -86,7 +86,7 @@ module _ (g : Config) (T : ℕ → ℕ) where
   totals_agree earlier a all good =
       and_right (counting g a) _
       (ap₂ differ (ap (total_at g a.occasion) (counted_is earlier all) ∙ total_at_is a.occasion earlier all) good.total_is
-      ∙ same_total (any_of (tells g a.occasion) earlier) (carries_total g a.format) (value (span g) (T a.occasion)))
+      ∙ same_total (list_any (tells g a.occasion) earlier) (carries_total g a.format) (value (span g) (T a.occasion)))
 
   one_passes : (earlier : List Arrival) (a : Arrival) → AllByRecursion (Good g T) earlier → Good g T a → rises_above (last_of earlier) a ≡ true → arrival_refused g earlier a ≡ None
   one_passes earlier a all good up =

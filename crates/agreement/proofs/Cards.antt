@@ -30,7 +30,7 @@ use Rattle.agreement.proofs.Left.{left, sps_left, sps_lent, marks_many, expects,
 use Rattle.agreement.proofs.Told.{bit_tells, sps_bit_tells}
 
 -- what comes out, by what the report answered, why reading is declined and whether the report answers
-abbrev outcome_with : Exchange → List ℕ → Result ℕ Refusal → Option Refusal → Bool → Outcome
+abbrev pub outcome_with : Exchange → List ℕ → Result ℕ Refusal → Option Refusal → Bool → Outcome
 outcome_with x bytes report why answers = record {
   expected = expected (batch_left x);
   report = report;

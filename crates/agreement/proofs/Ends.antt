@@ -1,6 +1,6 @@
 -- The end value of what arrived: the number that it stands for, and when that is the last number sent. Assumes nothing.
 use Rattle.std.proofs.Common.{◌≡◌, ℕ, ◌-◌, ◌<◌, ◌≤◌, Bool, true, false, cond, ◌⊎◌, List, [], ◌∷◌, map, length, get_or, Some, None, Option, unwrap_or, sym, refl, ap, ◌∙◌, subst, ap₂, inl, inr, arith}
-use Rattle.std.specs.List.{AllByRecursion}
+use Rattle.std.specs.List.{AllByRecursion, list_any}
 use Rattle.std.proofs.ByRecursion.{All-get_or, All-weaker}
 use Rattle.std.proofs.lemmas.List.{length-map}
 use Rattle.std.proofs.lemmas.Bool.{cond_both, and_parts, and_from, eqb-true, eq-eqb, leb-true, le-leb, both_ways}
@@ -18,7 +18,7 @@ use Rattle.ue.proofs.Walked.{those_few}
 use Rattle.gnb.specs.Sending.{Assignment}
 use Rattle.agreement.specs.declared.fates.Fate.{Fate}
 use Rattle.agreement.specs.Fates.{fate_of}
-use Rattle.agreement.proofs.Picked.{all_both, last_all, last_map, any_of, those_all, those_full, at_those, any_true, any_false, Climbs, climbs_those, climbs_last}
+use Rattle.agreement.proofs.Picked.{all_both, last_all, last_map, those_all, those_full, at_those, any_true, any_false, Climbs, climbs_those, climbs_last}
 use Rattle.agreement.proofs.Sendings.{number_of, occasion_of, early, row_at, row_numbers, row_occasions, till, occasions, Sends, Known, known}
 use Rattle.agreement.proofs.Arriving.{Good, tells, total_at_is, here, arrival, numbers_are, counter_is}
 
@@ -59,7 +59,7 @@ module _ (g : Config) (fates : List Fate) (xs : List Assignment) (d : Assignment
 
   -- some arrival tells the total of an occasion
   abbrev told : ℕ → List Assignment → Bool
-  told m ys = any_of (tells g m) (map (arrival fates) ys)
+  told m ys = list_any (tells g m) (map (arrival fates) ys)
 
   -- the number that the end value stands for: the total of the last occasion where one tells it, else the last number
   abbrev pub upto : List Assignment → ℕ

@@ -1,6 +1,6 @@
 -- Elements that pass a test, the last element, and rows that climb. Assumes nothing.
-use Rattle.std.proofs.Common.{◌≡◌, ℕ, zero, suc, ◌<◌, ◌≤◌, Bool, true, false, cond, ◌||◌, List, [], ◌∷◌, map, length, get_or, sym, refl, ap, ◌∙◌, subst, ⊎_elim, arith}
-use Rattle.std.specs.List.{AllByRecursion}
+use Rattle.std.proofs.Common.{◌≡◌, ℕ, zero, suc, ◌<◌, ◌≤◌, Bool, true, false, cond, List, [], ◌∷◌, map, length, get_or, sym, refl, ap, ◌∙◌, subst, ⊎_elim, arith}
+use Rattle.std.specs.List.{AllByRecursion, list_any}
 use Rattle.std.proofs.lemmas.Bool.{true≢false, cond-true, or_cases, or_parts}
 use Rattle.harq.specs.Words.{those, last_or}
 use Rattle.ue.proofs.Walked.{those_few}
@@ -20,11 +20,6 @@ module _ {X : Type 0} where
   pub last_map : {Y : Type 0} (f : X → Y) (x : X) (xs : List X) → last_or (f x) (map f xs) ≡ f (last_or x xs)
   last_map f x [] = refl
   last_map f x (y ∷ xs) = last_map f y xs
-
-  -- some element passes
-  abbrev pub any_of : (X → Bool) → List X → Bool
-  any_of test [] = false
-  any_of test (x ∷ xs) = test x || any_of test xs
 
 module _ {X : Type 0} (test : X → Bool) where
   -- all pass: those are all
@@ -53,12 +48,12 @@ module _ {X : Type 0} (test : X → Bool) where
   at_those P (x ∷ xs) (suc i) d all h e = at_those P xs i d (all_after_first P (test x) x (those test xs) all) (omega arith) e
 
   -- one that passes, with what holds of each
-  pub any_true : {Y : Type 0} (f : Y → X) (P : Y → Type 0) (ys : List Y) → AllByRecursion P ys → any_of test (map f ys) ≡ true → (y : Y) × P y × (test (f y) ≡ true)
+  pub any_true : {Y : Type 0} (f : Y → X) (P : Y → Type 0) (ys : List Y) → AllByRecursion P ys → list_any test (map f ys) ≡ true → (y : Y) × P y × (test (f y) ≡ true)
   any_true f P [] all e = absurd (true≢false (sym e))
   any_true f P (y ∷ ys) all e = ⊎_elim (λ here. (y, all.0, here)) (λ on. any_true f P ys all.1 on) (or_cases (test (f y)) _ e)
 
   -- none passes
-  pub any_false : {Y : Type 0} (f : Y → X) (ys : List Y) → any_of test (map f ys) ≡ false → AllByRecursion (λ y. test (f y) ≡ false) ys
+  pub any_false : {Y : Type 0} (f : Y → X) (ys : List Y) → list_any test (map f ys) ≡ false → AllByRecursion (λ y. test (f y) ≡ false) ys
   any_false f [] e = tt
   any_false f (y ∷ ys) e = let p = or_parts _ _ e in (p.0, any_false f ys p.1)
 

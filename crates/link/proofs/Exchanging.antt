@@ -1,5 +1,5 @@
 -- All that comes of an exchange, by what comes of its steps. Assumes nothing.
-use Rattle.std.proofs.Common.{◌≡◌, ℕ, Bool, false, List, [], length, Ok, Err, Result, sym, refl, ap, ◌∙◌, subst, ap₂}
+use Rattle.std.proofs.Common.{◌≡◌, ℕ, Bool, false, List, [], length, is_ok, Ok, Err, Result, sym, refl, ap, ◌∙◌, subst, ap₂}
 use Rattle.std.proofs.lemmas.Bool.{true≢false}
 use Rattle.harq.specs.declared.refusals.Refusal.{Refusal}
 use Rattle.sink.specs.Bits.{bits_of}
@@ -17,9 +17,9 @@ use Rattle.agreement.specs.Agreement.{Hold}
 use Rattle.agreement.specs.Exchanges.{Exchange, all_arrived, batch_left, table_left, marks_left, report_answered}
 use Rattle.link.specs.declared.exchanges.Exchanged.{Exchanged}
 use Rattle.link.specs.Reported.{IsReported}
-use Rattle.link.specs.Played.{is_expected, bits_gained, table_marked, marks_marked, opening, exchanged, exchanged_by, table_exchanged, marks_exchanged, if_opened, report_made, IsExchanged}
+use Rattle.link.specs.Played.{is_expected, bits_gained, table_marked, marks_marked, opening, exchanged, exchanged_by, table_exchanged, marks_exchanged, if_opened, IsExchanged}
 use Rattle.link.proofs.Keeping.{keeps_agreement}
-use Rattle.link.proofs.Playing.{marks_kept, if_declined, if_accepted, unmade, table_heard, marks_heard}
+use Rattle.link.proofs.Playing.{marks_kept, if_declined, if_accepted, table_heard, marks_heard}
 
 module _ {S : Type 0} (taken : S → List Bool) (room : S → ℕ) (took : S → List Bool → S → Type 0) (aired : List Bool → List Bool) (x : Exchange) (before : S) where
   -- opening was declined
@@ -86,6 +86,6 @@ module _ {S : Type 0} (taken : S → List Bool) (room : S → ℕ) (took : S →
               ∙ if_accepted x b is (slots_by x.config (all_arrived x) x.slots (report_answered x)) x.slots;
           gains = subst (λ (l : List Bool). Gains taken room took before (aired l) after) bits_so reported.gains;
           took = λ _. subst (λ (l : List Bool). took before (aired l) after) bits_so reported.took;
-          kept = λ none. reported.kept (unmade r (ap report_made answered ∙ if_accepted x b is (report_made (report_answered x)) false ∙ none));
+          kept = λ none. reported.kept (ap is_ok answered ∙ if_accepted x b is (is_ok (report_answered x)) false ∙ none);
           agree = keeps_agreement x _ _ _ answer table-now marks-now;
         }

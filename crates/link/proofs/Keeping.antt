@@ -17,7 +17,7 @@ use Rattle.agreement.specs.Agreement.{Premises, Hold, Agreement}
 use Rattle.link.specs.Played.{is_expected, answers, bits_gained, table_marked, marks_marked, opening, if_opened, exchanged_by, exchanged, table_exchanged, marks_exchanged, outcome_of, Agreed, KeepsAgreement}
 use Rattle.agreement.proofs.Left.{reading_none}
 use Rattle.agreement.proofs.UeSide.{ue_side}
-use Rattle.agreement.proofs.Cards.{report_made, answering_is, agreement_by}
+use Rattle.agreement.proofs.Cards.{outcome_with, report_made, answering_is, agreement_by}
 use Rattle.link.proofs.Playing.{table_heard, marks_heard}
 
 -- n bytes hold bits that are not too many
@@ -30,16 +30,6 @@ module _ (n : ℕ) (bits : List Bool) (few : length bits ≤ 8 * n) where
 
   packed_hold : Hold (bytes_of n filled) bits
   packed_hold = ap (take (length bits)) (packed_unpacks n filled filled_long) ∙ take_at bits (replicate (8 * n - length bits) false) (length bits) refl
-
--- what comes out, by what the report answered, why reading is declined and whether the report answers
-abbrev outcome_with : Exchange → List ℕ → Option Refusal → Bool → Outcome
-outcome_with x bytes why a = record {
-  expected = expected (batch_left x);
-  report = report_answered x;
-  reading = settled why (batch_left x) a (bits_of bytes) (table_left x) (marks_left x);
-  table = table_settled why (batch_left x) a (bits_of bytes) (table_left x);
-  marks = marks_settled why (batch_left x) a (bits_of bytes) (marks_left x);
-}
 
 module _ (x : Exchange) (p : Premises x) where
   accepts : Ok (fresh_batch x.config (sps_list x)) ≡ opening x
@@ -72,7 +62,7 @@ module _ (x : Exchange) (p : Premises x) where
 
   outcome_so : outcome_by x bytes ≡ outcome_of answer (table_marked x) (marks_marked x)
   outcome_so =
-      ap₂ (outcome_with x bytes) (reading_none x p.opened (length bytes)) answers_so
+      ap₂ (outcome_with x bytes (report_answered x)) (reading_none x p.opened (length bytes)) answers_so
       ∙ ap₂ (λ (t : List GrantEntry) (m : List Mark). record {
         expected = expected (batch_left x);
         report = report_answered x;

@@ -1,5 +1,5 @@
 -- The steps of an exchange, put together. Assumes nothing.
-use Rattle.std.proofs.Common.{◌≡◌, ℕ, ◌≤◌, true, false, List, map, length, take, is_ok, Some, None, Ok, Err, Option, Result, sym, refl, ap, ◌∙◌, arith}
+use Rattle.std.proofs.Common.{◌≡◌, ℕ, ◌≤◌, true, false, List, map, length, take, Some, None, Ok, Err, Option, Result, sym, refl, ap, ◌∙◌, arith}
 use Rattle.std.proofs.lemmas.Bool.{eqb-true, le-ltb, or_from, true≢false}
 use Rattle.harq.specs.declared.configs.Config.{Config}
 use Rattle.harq.specs.declared.refusals.Refusal.{Refusal}
@@ -20,7 +20,7 @@ use Rattle.gnb.specs.Sending.{assignment_in}
 use Rattle.gnb.specs.Readings.{table_read, sps_read, too_short, has_place}
 use Rattle.agreement.specs.Fates.{arrivals_of}
 use Rattle.agreement.specs.Exchanges.{Exchange, sps_list, all_sent, all_arrived, batch_left, table_left, marks_left}
-use Rattle.link.specs.Played.{is_expected, answers, bits_gained, table_marked, marks_marked, opening, if_opened, report_made}
+use Rattle.link.specs.Played.{is_expected, answers, bits_gained, table_marked, marks_marked, opening, if_opened}
 use Rattle.gnb.proofs.Entries.{entries_fit, entries_placed}
 use Rattle.agreement.proofs.Left.{left, sps_left, sps_lent, marks_many}
 use Rattle.link.proofs.Heard.{table_same, sps_same}
@@ -44,11 +44,6 @@ if_declined x e is a b = ap (λ r. if_opened r a b) is
 
 pub if_accepted : {X : Type 0} (x : Exchange) (s : BatchState) → Ok s ≡ opening x → (a b : X) → a ≡ if_opened (opening x) a b
 if_accepted x s is a b = ap (λ r. if_opened r a b) is
-
--- a report that was not made
-pub unmade : (r : Result ℕ Refusal) → report_made r ≡ false → is_ok r ≡ false
-unmade (Ok n) e = e
-unmade (Err y) e = refl
 
 -- a report by what the checks say of it: its bits are so many
 module _ (x : Exchange) where

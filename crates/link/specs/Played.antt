@@ -82,12 +82,8 @@ abbrev pub bits_exchanged : Exchange → List Bool
 bits_exchanged x = if_opened (opening x) (bits_gained x) []
 
 -- a report was made
-abbrev pub report_made : Result ℕ Refusal → Bool
-report_made (Ok n) = true
-report_made (Err e) = false
-
 abbrev pub reports : Exchange → Bool
-reports x = if_opened (opening x) (report_made (report_answered x)) false
+reports x = if_opened (opening x) (is_ok (report_answered x)) false
 
 -- what the call answered and left, as an outcome: reading is not declined
 abbrev pub outcome_of : Exchanged → List GrantEntry → List Mark → Outcome
