@@ -46,21 +46,13 @@ impl BitSink for PackedBits<'_> {
     }
 }
 
-// The byte that has only bit k, counted from the top.
-fn mask(k: usize) -> u8
-    requires { k < 8 }
-    ensures { result ≡ 128 / 2 ^ k }
-{
-    0x80u8 >> k
-}
-
-// The byte with its bit k as given.
+// The byte with its bit k as given, counted from the top.
 #[tactic(auto, using(crate::proofs::Bytes::set_one, crate::proofs::Bytes::set_zero))]
 fn with_bit(byte: u8, k: usize, bit: bool) -> u8
     requires { k < 8 }
     ensures { byte_bits result ≡ slice_set (byte_bits byte) k bit }
 {
-    let only = mask(k);
+    let only = 0x80u8 >> k;
     if bit { byte | only } else { byte & !only }
 }
 
