@@ -1,5 +1,5 @@
 // Bits packed into lent bytes, the top bit first, and read back.
-ghost use Rattle.std.specs.Prelude.{◌≡◌, ◌*◌, ◌/◌, ◌^◌, ◌<◌, [], length, nat_lt, slice_set};
+ghost use Rattle.std.specs.Prelude.{◌≡◌, ◌*◌, ◌<◌, [], length, nat_lt, slice_set};
 ghost use Rattle.sink.specs.Bits.{bit_of, byte_bits, bits_of, bit_read};
 ghost use Rattle.sink.specs.Ends.{capacity, packed_taken, packed_room, PackedTook};
 
