@@ -1,37 +1,19 @@
--- Rows: counted numbers, last elements, and what a row of counters leaves behind. Assumes nothing.
+-- Rows: counted numbers, last elements, and places. Assumes nothing.
 use Rattle.std.proofs.Common.{◌≡◌, ℕ, zero, suc, ◌+◌, ◌<◌, ◌≤◌, List, [], ◌∷◌, ◌++◌, map, length, get_or, take, drop, set, replicate, sym, refl, ap, ◌∙◌, ap₂, arith}
 use Rattle.std.specs.List.{range_with_len}
-use Rattle.std.proofs.lemmas.List.FromFn.{length-range_with_len, get_or-range_with_len, fill_by_all}
+pub use Rattle.std.proofs.lemmas.List.FromFn.{length-range_with_len as length_counting_from, get_or-range_with_len as get_or_counting_from}
+use Rattle.std.proofs.lemmas.List.FromFn.{fill_by_all}
 use Rattle.std.proofs.lemmas.List.{take-append-drop, length-take-le, length-drop, get_or-take, get_or-drop, ext_get_or}
-use Rattle.harq.specs.Words.{last_or, counting_from}
-use Rattle.harq.specs.Placing.{turns_after, place_of, places, count_at, count_after}
+use Rattle.harq.specs.Words.{last_or}
+use Rattle.harq.specs.Placing.{turns_after, places}
 use Rattle.harq.specs.PlacingLaws.{Below}
-
--- the library's word for the same numbers, which has more lemmas
-pub counting_from_is : (a n : ℕ) → counting_from a n ≡ range_with_len a n
-counting_from_is a zero = refl
-counting_from_is a (suc n) = ap (λ (l : List ℕ). a ∷ l) (counting_from_is (a + 1) n)
-
-pub length_counting_from : (a n : ℕ) → length (counting_from a n) ≡ n
-length_counting_from a n = ap length (counting_from_is a n) ∙ length-range_with_len a n
-
-pub get_or_counting_from : (a n i d : ℕ) → i < n → get_or (counting_from a n) i d ≡ a + i
-get_or_counting_from a n i d h = ap (λ (l : List ℕ). get_or l i d) (counting_from_is a n) ∙ get_or-range_with_len a n i d h
-
--- one more at the end
-pub counting_from_push : (a n : ℕ) → counting_from a (n + 1) ≡ counting_from a n ++ (a + n) ∷ []
-counting_from_push a zero = let end : a ≡ a + 0 = omega arith in ap (λ (m : ℕ). m ∷ []) end
-counting_from_push a (suc n) =
-    let more : suc n + 1 ≡ suc (n + 1) = omega arith in
-    let end : (a + 1) + n ≡ a + suc n = omega arith in
-    ap (counting_from a) more ∙ ap (λ (l : List ℕ). a ∷ l) (rw end at (counting_from_push (a + 1) n))
 
 -- a list that is made by place up to n, and then is `rest`
 pub made_by_place : {X : Type 0} (f : ℕ → X) (n : ℕ) (ys rest : List X) (d : X) → length ys ≡ n + length rest →
-    ((k : ℕ) → k < n → get_or ys k d ≡ f k) → ((k : ℕ) → get_or ys (n + k) d ≡ get_or rest k d) → ys ≡ map f (counting_from 0 n) ++ rest
+    ((k : ℕ) → k < n → get_or ys k d ≡ f k) → ((k : ℕ) → get_or ys (n + k) d ≡ get_or rest k d) → ys ≡ map f (range_with_len 0 n) ++ rest
 made_by_place f n ys rest d all front back =
     sym (take-append-drop n ys) ∙ ap₂ ◌++◌
-    (fill_by_all f (take n ys) n d (length-take-le n ys (omega arith)) (λ k h. get_or-take n ys k d h ∙ front k h) ∙ ap (map f) (sym (counting_from_is 0 n)))
+    (fill_by_all f (take n ys) n d (length-take-le n ys (omega arith)) (λ k h. get_or-take n ys k d h ∙ front k h))
     (ext_get_or d (drop n ys) rest (omega (arith, length-drop n ys)) (λ k _. get_or-drop n ys k d ∙ back k))
 
 pub below_le : (n m : ℕ) (qs : List ℕ) → n ≤ m → Below n qs → Below m qs
@@ -42,34 +24,9 @@ pub last_or_push : {X : Type 0} (d : X) (xs : List X) (x : X) → last_or d (xs 
 last_or_push d [] x = refl
 last_or_push d (y ∷ xs) x = last_or_push y xs x
 
--- the turns behind a row of counters; the counter before the next is `last_or previous vs`
-abbrev pub turns_along : ℕ → ℕ → List ℕ → ℕ
-turns_along turns previous [] = turns
-turns_along turns previous (v ∷ vs) = turns_along (turns_after turns previous v) v vs
-
-pub turns_along_push : (j p : ℕ) (vs : List ℕ) (v : ℕ) → turns_along j p (vs ++ v ∷ []) ≡ turns_after (turns_along j p vs) (last_or p vs) v
-turns_along_push j p [] v = refl
-turns_along_push j p (u ∷ vs) v = turns_along_push (turns_after j p u) u vs v
-
 pub length_places : (span j p : ℕ) (vs : List ℕ) → length (places span j p vs) ≡ length vs
 length_places span j p [] = refl
 length_places span j p (v ∷ vs) = ap suc (length_places span (turns_after j p v) v vs)
-
-pub places_push : (span j p : ℕ) (vs : List ℕ) (v : ℕ) →
-    places span j p (vs ++ v ∷ []) ≡ places span j p vs ++ place_of span (turns_along j p vs) (last_or p vs) v ∷ []
-places_push span j p [] v = refl
-places_push span j p (u ∷ vs) v =
-    ap (λ (l : List ℕ). place_of span j p u ∷ l) (places_push span (turns_after j p u) u vs v)
-
--- the slot count behind a row is the one of the state behind it
-pub count_after_is : (span j p : ℕ) (vs : List ℕ) (e : ℕ) → count_after span j p vs e ≡ count_at span (turns_along j p vs) (last_or p vs) e
-count_after_is span j p [] e = refl
-count_after_is span j p (v ∷ vs) e = count_after_is span (turns_after j p v) v vs e
-
-pub count_after_push : (span j p : ℕ) (vs : List ℕ) (v e : ℕ) →
-    count_after span j p (vs ++ v ∷ []) e ≡ count_at span (turns_after (turns_along j p vs) (last_or p vs) v) v e
-count_after_push span j p [] v e = refl
-count_after_push span j p (u ∷ vs) v e = count_after_push span (turns_after j p u) u vs v e
 
 -- one more of the first filled
 pub fill_more : {X : Type 0} (v : X) (n : ℕ) (d : List X) → n < length d → set (replicate n v ++ drop n d) n v ≡ replicate (suc n) v ++ drop (suc n) d

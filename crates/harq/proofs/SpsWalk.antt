@@ -1,33 +1,14 @@
--- One turn of the loop over an SPS list. Assumes nothing.
-use Rattle.std.proofs.Common.{◌≡◌, ℕ, ◌+◌, ◌<◌, ◌≤◌, Bool, true, false, cond, ◌&&◌, List, [], ◌∷◌, length, get_or, drop, Some, None, Option, sym, refl, ap, ◌∙◌, arith}
-use Rattle.std.proofs.lemmas.List.{drop_more}
+-- A list in order has at most 64 elements. Assumes nothing.
+use Rattle.std.proofs.Common.{◌≡◌, ℕ, ◌+◌, ◌≤◌, Bool, true, false, cond, ◌&&◌, List, [], ◌∷◌, length, Some, None, Option, refl, arith}
 use Rattle.std.proofs.lemmas.Bool.{and_parts, ltb-true}
 use Rattle.harq.specs.declared.configs.Config.{Config}
 use Rattle.harq.specs.declared.sps.SpsEntry.{SpsEntry}
 use Rattle.harq.specs.SpsLists.{entry_fits, unfit_from}
 
-module _ {X : Type 0} (listed : X → SpsEntry) (sound : X → Bool) (g : Config) (xs : List X) (i : ℕ) (previous : Option SpsEntry)
-    (r : Option ℕ) (inv : unfit_from listed sound g i previous (drop i xs) ≡ r) (x : X) (within : i < length xs) (is : x ≡ get_or xs i x) where
-  turn : (b : Bool) → b ≡ (entry_fits g i previous (listed x) && sound x) →
-      cond b (unfit_from listed sound g (i + 1) (Some (listed x)) (drop (i + 1) xs)) (Some i) ≡ r
-  turn b e =
-      let front : drop i xs ≡ x ∷ drop (i + 1) xs = drop_more xs i x within ∙ ap (λ y. y ∷ drop (i + 1) xs) (sym is) in
-      ap (λ t. cond t (unfit_from listed sound g (i + 1) (Some (listed x)) (drop (i + 1) xs)) (Some i)) e
-      ∙ sym (ap (unfit_from listed sound g i previous) front) ∙ inv
-
-  -- the element does not fit
-  pub stops_here : false ≡ (entry_fits g i previous (listed x) && sound x) → Some i ≡ r
-  stops_here e = turn false e
-
-  -- it fits, and the next one follows it
-  pub goes_on : true ≡ (entry_fits g i previous (listed x) && sound x) → unfit_from listed sound g (i + 1) (Some (listed x)) (drop (i + 1) xs) ≡ r
-  goes_on e = turn true e
-
--- a list in order has at most 64 elements
 module _ {X : Type 0} (listed : X → SpsEntry) (sound : X → Bool) (g : Config) where
   few_rest : (b : Bool) (i n : ℕ) (o : Option ℕ) → cond b o (Some i) ≡ None → (b ≡ true → o ≡ None → n ≤ 64) → n ≤ 64
   few_rest true i n o e h = h refl e
-  few_rest false i n o e h = let z : ◌≡◌ {A = ℕ} 0 1 = cc in absurd (omega arith)
+  few_rest false i n o e h = absurd cc
 
   pub fit_few : (xs : List X) (i : ℕ) (previous : Option SpsEntry) → i ≤ 64 → unfit_from listed sound g i previous xs ≡ None → i + length xs ≤ 64
   fit_few [] i previous h e = omega arith

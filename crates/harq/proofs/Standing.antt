@@ -1,8 +1,9 @@
 -- What the places of a row of counters are, behind a number k that stands in turn j with the value p. Assumes nothing.
 use Rattle.std.proofs.Common.{◌≡◌, ℕ, zero, suc, ◌+◌, ◌-◌, ◌*◌, ◌<◌, ◌≤◌, cond, ltb, leb, List, [], ◌∷◌, map, length, refl, ap, subst, ap₂, mul-le-mul_left, mul-zero, mul-suc, add-one, arith}
 use Rattle.std.proofs.lemmas.Bool.{cond_both, leb-false, ltb-false}
+use Rattle.std.specs.List.{range_with_len}
 use Rattle.dai.specs.Values.{value}
-use Rattle.harq.specs.Words.{last_or, counting_from}
+use Rattle.harq.specs.Words.{last_or}
 use Rattle.harq.specs.Placing.{turns_after, place_of, places, count_at, count_after, slot_count}
 use Rattle.harq.specs.PlacingLaws.{Within, Least, StandsFor, Rising, Below, PlacingStands, NothingLost}
 use Rattle.harq.proofs.Turns.{Stands, turn_of, stands, stands_value, turn_le, turn_kept, end_le, end_kept}
@@ -95,14 +96,14 @@ module _ (span : ℕ) (hs : 0 < span) where
   next_stands : (j p k : ℕ) → Stands span k j p → Stands span (k + 1) (turns_after j p (value span (k + 1))) (value span (k + 1))
   next_stands j p k s = rw (next_turn j p k s) (stands span (k + 1) hs (omega arith))
 
-  pub whole_places : (n j p k : ℕ) → Stands span k j p → places span j p (map (value span) (counting_from (k + 1) n)) ≡ counting_from k n
+  pub whole_places : (n j p k : ℕ) → Stands span k j p → places span j p (map (value span) (range_with_len (k + 1) n)) ≡ range_with_len k n
   whole_places zero j p k s = refl
   whole_places (suc n) j p k s =
       let next = next_stands j p k s in
       let here : place_of span j p (value span (k + 1)) ≡ k = omega (arith, next.is) in
       ap₂ ◌∷◌ here (whole_places n (turns_after j p (value span (k + 1))) (value span (k + 1)) (k + 1) next)
 
-  pub whole_count : (n j p k N : ℕ) → Stands span k j p → 0 < p → k + n ≡ N → count_after span j p (map (value span) (counting_from (k + 1) n)) (value span N) ≡ N
+  pub whole_count : (n j p k N : ℕ) → Stands span k j p → 0 < p → k + n ≡ N → count_after span j p (map (value span) (range_with_len (k + 1) n)) (value span N) ≡ N
   whole_count zero j p k N s hp all =
       let t = stands span N hs (omega arith) in
       let same = end_kept span j j p k (value span N) (turn_of span N) N s t hp (omega arith) (omega arith) refl (omega arith) in
@@ -128,7 +129,7 @@ placing_stands span hs vs w = record {
   below = λ e he top. row_below span hs e vs w;
 }
 
-whole_slots : (span : ℕ) → 0 < span → (n : ℕ) → slot_count span (map (value span) (counting_from 1 n)) (value span n) ≡ n
+whole_slots : (span : ℕ) → 0 < span → (n : ℕ) → slot_count span (map (value span) (range_with_len 1 n)) (value span n) ≡ n
 whole_slots span hs zero = refl
 whole_slots span hs (suc n) =
     whole_count span hs n (turns_after 0 0 (value span 1)) (value span 1) 1 (suc n) (next_stands span hs 0 0 0 (stands_none span)) (omega arith) (omega arith)

@@ -1,9 +1,10 @@
 -- The configuration: its limits, and what follows from it. Assumes nothing.
 use Rattle.std.specs.Prelude.{ℕ, Bool, false, cond, ◌&&◌, ◌||◌, leb, take, Some, None, Option, ◌==◌, nat_le, nat_lt, slice_index}
+use Rattle.std.specs.List.{list_all}
 use Rattle.dai.specs.declared.Layout.{Layout}
 use Rattle.dai.specs.declared.Layout.TheVariants.{One, Two, Four}
 use Rattle.dai.specs.Fields.{has_total, reading}
-use Rattle.harq.specs.Words.{every, with_some}
+use Rattle.std.specs.Option.{option_and_then}
 use Rattle.harq.specs.declared.configs.Config.{Config}
 
 -- the first occasion that counts on a cell
@@ -22,7 +23,7 @@ numbers_within g =
 
 -- the limits of a configuration
 abbrev pub config_within : Config → Bool
-config_within g = numbers_within g && every (λ f. leb f g.occasions) (take g.cells g.first)
+config_within g = numbers_within g && list_all (λ f. leb f g.occasions) (take g.cells g.first)
 
 -- there is such a cell and occasion
 abbrev pub in_range : Config → ℕ → ℕ → Bool
@@ -63,7 +64,7 @@ carries_total g format = total_there (layout_of g format)
 
 -- the counter and the total of a field, or none where the format is barred or the field too wide
 abbrev pub read_dai : Config → ℕ → ℕ → Option (ℕ × Option ℕ)
-read_dai g format field = with_some (layout_of g format) (λ l. reading l field)
+read_dai g format field = option_and_then (λ l. reading l field) (layout_of g format)
 
 -- a block count that the mode has
 abbrev pub blocks_within : Config → ℕ → Bool

@@ -1,8 +1,9 @@
 -- Placing in the subject's words: which number a counter stands for. Assumes nothing.
 use Rattle.std.specs.Prelude.{◌≡◌, ℕ, ◌+◌, ◌<◌, ◌≤◌, List, [], ◌∷◌, map, length, slice_index_or}
+use Rattle.std.specs.List.{range_with_len}
 use Rattle.std.specs.Option.{unwrap_or}
 use Rattle.dai.specs.Values.{value}
-use Rattle.harq.specs.Words.{last_or, counting_from}
+use Rattle.harq.specs.Words.{last_or}
 use Rattle.harq.specs.Placing.{places, slot_count, standing_at, written_at}
 
 -- every counter lies within 1..span
@@ -50,8 +51,8 @@ PlacingStands = (span : ℕ) → 0 < span → (vs : List ℕ) → Within span vs
 abbrev pub NothingLost : Type 0
 NothingLost =
     (span : ℕ) → 0 < span → (n : ℕ) →
-    (places span 0 0 (map (value span) (counting_from 1 n)) ≡ counting_from 0 n) ×
-    (slot_count span (map (value span) (counting_from 1 n)) (value span n) ≡ n)
+    (places span 0 0 (map (value span) (range_with_len 1 n)) ≡ range_with_len 0 n) ×
+    (slot_count span (map (value span) (range_with_len 1 n)) (value span n) ≡ n)
 
 -- a slot holds the entry whose place it is, and any other keeps its content
 abbrev pub SlotsHold : Type 0 → Type 0

@@ -1,11 +1,13 @@
 // The configuration that UE and gNB share.
-ghost use Rattle.std.specs.Prelude.{◌≡◌, Bool, nat_le, slice_index};
-ghost use Rattle.harq.specs.Words.{every};
-ghost use Rattle.harq.specs.Configs.{first_counted, numbers_within, config_within, span, bits_per_place, layout_of, read_dai, blocks_within, in_range, counts};
+ghost use Rattle.std.specs.Prelude.{◌≡◌, nat_le};
+ghost use Rattle.std.specs.List.{list_all};
+ghost use Rattle.harq.specs.Configs.{numbers_within, config_within, span, bits_per_place, layout_wide, layout_of, read_dai, blocks_within, in_range, counts};
 
+use crate::formats::Format;
+use crate::modes::Mode;
 use dai::Layout;
 
-// Entries of `first` from `cells` on are not looked at.
+// The numbers are as given, within limits or not: a card answers those that are not by a refusal's number.
 #[derive(Clone, Copy, Debug, Default, PartialEq, Eq)]
 pub struct Config {
     // Cells, numbered from 0.
@@ -14,44 +16,45 @@ pub struct Config {
     pub occasions: u32,
     // Width in bits of format 1_2's DAI field; 0 bars the format.
     pub width: u32,
-    // 0: one block for each assignment; 1: two blocks; 2: two, bundled.
+    // The number of a `Mode`.
     pub mode: u32,
-    // Per cell the first occasion that counts after a bandwidth part change.
+    // Per cell the first occasion that counts after a bandwidth part change; from `cells` on not looked at.
     pub first: [u32; 16],
 }
 
 fn all_up_to(firsts: &[u32], limit: u32) -> bool
-    ensures { result ≡ every (λ f. nat_le f limit) firsts.now }
+    ensures { result ≡ list_all (λ f. nat_le f limit) firsts.now }
 {
-    for f in firsts {
-        if *f > limit {
-            return false;
-        }
-    }
-    true
+    firsts.iter().all(|f| *f <= limit)
 }
 
-fn at_or_zero(firsts: &[u32], i: usize) -> u32
-    ensures { result ≡ slice_index firsts.now i }
+// The layout of format 1_2's field, by its width.
+fn layout_wide(width: u32) -> Option<Layout>
+    ensures { result ≡ layout_wide width }
 {
-    if i < firsts.len() { firsts[i] } else { 0 }
+    match width {
+        1 => Some(Layout::One),
+        2 => Some(Layout::Two),
+        4 => Some(Layout::Four),
+        _ => None,
+    }
 }
 
 impl Config {
     fn numbers_within(&self) -> bool
         ensures { result ≡ numbers_within self.now }
     {
-        let cells = 1 <= self.cells && self.cells <= 16;
-        let occasions = 1 <= self.occasions && self.occasions <= 32;
+        let cells = (1..=16).contains(&self.cells);
+        let occasions = (1..=32).contains(&self.occasions);
         let width = self.width <= 2 || (self.width == 4 && 1 < self.cells);
-        cells && (occasions && (width && self.mode <= 2))
+        cells && occasions && width && Mode::try_from(self.mode).is_ok()
     }
 
     // Whether the configuration is within limits.
     pub fn is_within(&self) -> bool
         ensures { result ≡ config_within self.now }
     {
-        self.numbers_within() && all_up_to(&self.first[0..self.cells as usize], self.occasions)
+        self.numbers_within() && all_up_to(&self.first[..self.cells as usize], self.occasions)
     }
 
     // How many values the counter DAI has.
@@ -65,28 +68,21 @@ impl Config {
     pub fn bits_per_place(&self) -> usize
         ensures { result ≡ bits_per_place self.now }
     {
-        if self.mode == 1 { 2 } else { 1 }
+        match Mode::try_from(self.mode) {
+            Ok(Mode::TwoBlocks) => 2,
+            _ => 1,
+        }
     }
 
-    // The DAI layout of a format, or none where the format is barred.
+    // The DAI layout of the format of a number, or none where there is no such format or it is barred.
     pub fn layout(&self, format: u32) -> Option<Layout>
         ensures { result ≡ layout_of self.now format }
     {
-        match format {
-            2 => match self.width {
-                1 => Some(Layout::One),
-                2 => Some(Layout::Two),
-                4 => Some(Layout::Four),
-                _ => None,
-            },
-            0 | 1 if self.width != 1 => {
-                if format == 1 && 1 < self.cells {
-                    Some(Layout::Four)
-                } else {
-                    Some(Layout::Two)
-                }
-            }
-            _ => None,
+        match Format::try_from(format).ok()? {
+            Format::OneTwo => layout_wide(self.width),
+            _ if self.width == 1 => None,
+            Format::OneOne if 1 < self.cells => Some(Layout::Four),
+            Format::OneZero | Format::OneOne => Some(Layout::Two),
         }
     }
 
@@ -108,13 +104,16 @@ impl Config {
     pub fn counts(&self, cell: u32, occasion: u32) -> bool
         ensures { result ≡ counts self.now cell occasion }
     {
-        at_or_zero(&self.first, cell as usize) <= occasion
+        self.first.get(cell as usize).copied().unwrap_or(0) <= occasion
     }
 
     // Whether the mode has that many blocks in an assignment.
     pub fn blocks_within(&self, blocks: u32) -> bool
         ensures { result ≡ blocks_within self.now blocks }
     {
-        blocks <= 2 && (blocks <= 1 || 0 < self.mode)
+        match Mode::try_from(self.mode) {
+            Ok(Mode::OneBlock) => blocks <= 1,
+            _ => blocks <= 2,
+        }
     }
 }

@@ -6,9 +6,9 @@ use std::fmt;
 
 #[derive(Clone, Copy, Debug, PartialEq, Eq)]
 pub enum Format {
-    OneZero,
-    OneOne,
-    OneTwo,
+    OneZero = 0,
+    OneOne = 1,
+    OneTwo = 2,
 }
 
 // A number of no format.
@@ -34,11 +34,7 @@ impl From<Format> for u32 {
     ghost from_gives = { λ f n. n ≡ format_number f };
 
     fn from(format: Format) -> u32 {
-        match format {
-            Format::OneZero => 0,
-            Format::OneOne => 1,
-            Format::OneTwo => 2,
-        }
+        format as u32
     }
 }
 

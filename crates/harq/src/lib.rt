@@ -1,4 +1,4 @@
-// What both cards share: configuration, refusals, SPS lists, placing by counter.
+// What both cards share: configuration, formats, modes, refusals, SPS lists, placing by counter.
 #![tactic(auto)]
 
 pub mod configs;

@@ -7,11 +7,11 @@ use std::fmt;
 #[derive(Clone, Copy, Debug, PartialEq, Eq)]
 pub enum Mode {
     // One block in each assignment.
-    OneBlock,
+    OneBlock = 0,
     // Two blocks, with a bit each.
-    TwoBlocks,
+    TwoBlocks = 1,
     // Two blocks, with one bit for both.
-    Bundled,
+    Bundled = 2,
 }
 
 // A number of no mode.
@@ -37,11 +37,7 @@ impl From<Mode> for u32 {
     ghost from_gives = { λ m n. n ≡ mode_number m };
 
     fn from(mode: Mode) -> u32 {
-        match mode {
-            Mode::OneBlock => 0,
-            Mode::TwoBlocks => 1,
-            Mode::Bundled => 2,
-        }
+        mode as u32
     }
 }
 

@@ -1,12 +1,13 @@
 // Placing by the counter DAI: one text for every kind of entry.
-ghost use Rattle.std.specs.Prelude.{◌≡◌, ℕ, ◌*◌, length, if◌then◌else◌, nat_lt, slice_set};
+ghost use Rattle.std.specs.Prelude.{◌≡◌, length, if◌then◌else◌, nat_lt, slice_set};
 ghost use Rattle.harq.specs.Agreement.{CountsAgree};
 ghost use Rattle.harq.specs.PlacingLaws.{PlacingStands, NothingLost, SlotsHold};
-ghost use Rattle.harq.specs.Placers.{fresh, placer_after, turns_of, advanced, place_at, place_answer, slots_at};
+ghost use Rattle.harq.specs.Placers.{fresh, placer_after, turns_if, turns_of, advanced, place_at, place_answer, slots_at};
 
 use crate::refusals::Refusal;
 
-// How far placing has come: the span of the counter, its turns so far, and the counter before (0: none).
+// How far placing has come: the span of the counter, its turns so far, and the counter before.
+// Before the first, that is 0: counters begin at 1, so 0 needs no case of its own.
 #[derive(Clone, Copy, Debug, PartialEq, Eq)]
 pub struct Placer {
     span: u32,
@@ -47,23 +48,25 @@ impl Placer {
         self.previous
     }
 
-    // The turns with one more counter; they stop at the largest number.
+    // The turns, one more where the counter has come round; they stop at the largest number.
+    fn turns_if(&self, round: bool) -> u32
+        ensures { result ≡ turns_if self.now round }
+    {
+        self.turns.saturating_add(u32::from(round))
+    }
+
+    // The turns with one more counter.
     fn turns_with(&self, counter: u32) -> u32
         ensures { result ≡ turns_of self.now counter }
     {
-        if counter <= self.previous {
-            self.turns.saturating_add(1)
-        } else {
-            self.turns
-        }
+        self.turns_if(counter <= self.previous)
     }
 
     // Goes on to a counter.
     pub fn advance(&mut self, counter: u32)
         ensures { self.new ≡ advanced self.old counter }
     {
-        let turns = self.turns_with(counter);
-        self.turns = turns;
+        self.turns = self.turns_with(counter);
         self.previous = counter;
     }
 
@@ -85,6 +88,7 @@ impl Placer {
         if at >= slots.len() {
             return Err(Refusal::Table);
         }
+        // By index: of a slice's `get_mut` a proof keeps no element.
         slots[at] = entry;
         self.advance(counter);
         Ok(())
@@ -94,32 +98,23 @@ impl Placer {
     pub fn slots_at(&self, end: u32) -> usize
         ensures { result ≡ slots_at self.now end }
     {
-        let turns = if end < self.previous {
-            self.turns.saturating_add(1)
-        } else {
-            self.turns
-        };
+        let turns = self.turns_if(end < self.previous);
         self.span as usize * turns as usize + end as usize
     }
 }
+
 // Each counter stands for the least number that it can, over every span, and the slot count for the least that the end value can.
-pub fn placing_stands() -> u8
+pub fn placing_stands()
     ensures stands { PlacingStands }
     ensures whole { NothingLost }
-{
-    0
-}
+{}
 
 // What the slots hold, whatever the entries are.
-pub fn slots_hold<E: Copy>() -> u8
+pub fn slots_hold<E: Copy>()
     ensures { SlotsHold E }
-{
-    0
-}
+{}
 
 // Whatever is lost: the slot count never passes what was sent, and is exact, with every place, exactly under the run condition.
-pub fn counts_agree() -> u8
+pub fn counts_agree()
     ensures { CountsAgree }
-{
-    0
-}
+{}

@@ -1,10 +1,11 @@
 // The SPS list: semi-persistent PDSCH receptions, which the report answers without an assignment.
-ghost use Rattle.std.specs.Prelude.{◌≡◌, Bool, true, ◌&&◌, Some, None};
+ghost use Rattle.std.specs.Prelude.{◌≡◌, Bool, true, None};
 ghost use Rattle.harq.specs.declared.sps.SpsEntry.{SpsEntry};
 ghost use Rattle.harq.specs.SpsLists.{entry_within, entry_above, entry_fits, unfit_from};
 
 use crate::configs::Config;
 
+// Ordered by cell, configuration and slot.
 #[derive(Clone, Copy, Debug, Default, PartialEq, Eq, PartialOrd, Ord)]
 pub struct SpsEntry {
     pub cell: u32,
@@ -16,27 +17,20 @@ impl SpsEntry {
     fn is_within(&self, config: &Config) -> bool
         ensures { result ≡ entry_within config.now self.now }
     {
-        self.cell < config.cells && (self.configuration <= 7 && self.slot <= 255)
+        self.cell < config.cells && self.configuration <= 7 && self.slot <= 255
     }
 
+    // None lies below each entry.
     fn is_above(&self, previous: Option<SpsEntry>) -> bool
         ensures { result ≡ entry_above previous self.now }
     {
-        match previous {
-            None => true,
-            Some(p) => {
-                p.cell < self.cell
-                    || (p.cell == self.cell
-                        && (p.configuration < self.configuration
-                            || (p.configuration == self.configuration && p.slot < self.slot)))
-            }
-        }
+        previous < Some(*self)
     }
 
     fn fits(&self, config: &Config, index: usize, previous: Option<SpsEntry>) -> bool
         ensures { result ≡ entry_fits config.now index previous self.now }
     {
-        index < 64 && (self.is_within(config) && self.is_above(previous))
+        index < 64 && self.is_within(config) && self.is_above(previous)
     }
 }
 
@@ -68,22 +62,18 @@ impl SpsListed for SpsEntry {
     }
 }
 
-fn is_fit<L: SpsListed>(config: &Config, index: usize, previous: Option<SpsEntry>, x: &L) -> bool
-    ensures { result ≡ (entry_fits config.now index previous (L.SpsListed.listed x.now) && L.SpsListed.sound x.now) }
-{
-    x.entry().fits(config, index, previous) && x.is_sound()
-}
-
 // The index of the first element that may not stand where it stands, at the latest the 65th; none where the list is in order.
 pub fn first_unfit<L: SpsListed>(config: &Config, list: &[L]) -> Option<usize>
     ensures { result ≡ unfit_from L.SpsListed.listed L.SpsListed.sound config.now 0 None list.now }
 {
+    // A loop, since each element is held against the one before it.
     let mut previous = None;
     for (i, x) in list.iter().enumerate() {
-        if !is_fit(config, i, previous, x) {
+        let entry = x.entry();
+        if !(entry.fits(config, i, previous) && x.is_sound()) {
             return Some(i);
         }
-        previous = Some(x.entry());
+        previous = Some(entry);
     }
     None
 }
