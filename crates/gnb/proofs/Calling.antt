@@ -1,5 +1,5 @@
 -- One turn of the loops of a numbering call. Assumes nothing.
-use Rattle.std.proofs.Common.{◌≡◌, ℕ, zero, suc, ◌+◌, ◌<◌, ◌≤◌, cond, ltb, List, [], ◌∷◌, ◌++◌, length, get_or, take, drop, set, Some, None, Ok, Err, Option, sym, refl, ap, ◌∙◌, arith}
+use Rattle.std.proofs.Common.{◌≡◌, ℕ, suc, ◌+◌, ◌*◌, ◌<◌, ◌≤◌, cond, ltb, List, [], ◌∷◌, ◌++◌, length, get_or, take, drop, set, Some, None, Ok, Err, Option, sym, refl, ap, ◌∙◌, arith}
 use Rattle.std.proofs.lemmas.List.{at_drop_more}
 use Rattle.std.proofs.lemmas.Bool.{cond-true, lt-ltb}
 use Rattle.std.proofs.lemmas.Bool.Decides.{nat_tests}
@@ -14,7 +14,6 @@ use Rattle.sink.specs.Written.{written}
 use Rattle.sink.proofs.Writing.{written_at}
 use Rattle.gnb.specs.declared.grants.Grant.{Grant}
 use Rattle.gnb.specs.declared.grants.GrantEntry.{GrantEntry}
-use Rattle.gnb.specs.Entries.{front}
 use Rattle.gnb.specs.Marks.{answered_blocks}
 use Rattle.gnb.specs.Calls.{allowed, grant_refused, grants_refused, entry_of, entries_of, blocks_in}
 
@@ -26,29 +25,22 @@ pub allowed_some : (o : Option Refusal) (y : Refusal) → Err y ≡ allowed o �
 allowed_some None y e = let z : ◌≡◌ {A = ℕ} 0 1 = cc in absurd (omega arith)
 allowed_some (Some x) y e = let s : x ≡ y = cc in ap Some s
 
--- a grant that is accepted is of a cell of its own
-pub grant_within : (g : Config) (m lowest : ℕ) (a : Grant) → grant_refused g m lowest a ≡ None → (a.cell < g.cells) × (lowest ≤ a.cell)
-grant_within g m lowest a e = (grind (arith, nat_tests), grind (arith, nat_tests))
-
 module _ (g : Config) (m lowest : ℕ) (gs : List Grant) (i : ℕ) (all : Option Refusal) (inv : grants_refused g m lowest (drop i gs) ≡ all)
     (d : Grant) (within : i < length gs) where
   turn : or_else (grant_refused g m lowest (get_or gs i d)) (grants_refused g m ((get_or gs i d).cell + 1) (drop (i + 1) gs)) ≡ all
   turn = sym (at_drop_more (grants_refused g m lowest) gs i d within) ∙ inv
 
-  pub goes_on : (u : Unit {0}) → Ok u ≡ allowed (grant_refused g m lowest (get_or gs i d)) → grants_refused g m ((get_or gs i d).cell + 1) (drop (i + 1) gs) ≡ all
-  goes_on u e =
-      sym (ap (λ o. or_else o (grants_refused g m ((get_or gs i d).cell + 1) (drop (i + 1) gs))) (allowed_none _ u e)) ∙ turn
-
   pub stops : (y : Refusal) → Err y ≡ allowed (grant_refused g m lowest (get_or gs i d)) → Err y ≡ allowed all
   stops y e =
       ap allowed (sym (ap (λ o. or_else o (grants_refused g m ((get_or gs i d).cell + 1) (drop (i + 1) gs))) (allowed_some _ y e)) ∙ turn)
 
--- one grant's blocks more
-pub blocks_more : (n x all : ℕ) (gs : List Grant) (i : ℕ) (d : Grant) → i < length gs → x ≡ answered_blocks (get_or gs i d).blocks →
-    n + blocks_in (drop i gs) ≡ all → (n + x) + blocks_in (drop (i + 1) gs) ≡ all
-blocks_more n x all gs i d within is inv =
-    let more : blocks_in (drop i gs) ≡ answered_blocks (get_or gs i d).blocks + blocks_in (drop (i + 1) gs) = at_drop_more blocks_in gs i d within in
-    omega arith
+-- a grant asks an answer for at most two blocks
+blocks_one : (blocks : ℕ) → answered_blocks blocks ≤ 2
+blocks_one blocks = grind (arith, nat_tests)
+
+pub blocks_few : (gs : List Grant) → blocks_in gs ≤ 2 * length gs
+blocks_few [] = omega arith
+blocks_few (a ∷ gs) = omega (arith, blocks_one a.blocks, blocks_few gs)
 
 pub written_step : {A : Type 0} (xs : List A) (i : ℕ) (y : A) (ys : List A) → written (set xs i y) (i + 1) ys ≡ written xs i (y ∷ ys)
 unfolding written
@@ -84,8 +76,3 @@ entries_stand g m total n gs t space =
     let l = length_entries g m total n gs in
     written_at t n (entries_of g m total n gs) (omega arith)
     ∙ ap (λ k. take n t ++ (entries_of g m total n gs ++ drop (n + k) t)) l
-
-pub front_drop : {X : Type 0} (xs : List X) (i : ℕ) (d : X) → i < length xs → Some (get_or xs i d) ≡ front (drop i xs)
-front_drop [] i d h = absurd (omega arith)
-front_drop (x ∷ xs) zero d h = refl
-front_drop (x ∷ xs) (suc i) d h = front_drop xs i d (omega arith)

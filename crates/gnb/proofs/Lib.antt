@@ -1,5 +1,4 @@
 pub mod Calling
-pub mod Planning
 pub mod Firsts
 pub mod Tallies
 pub mod Accepted

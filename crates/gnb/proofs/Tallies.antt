@@ -1,12 +1,11 @@
 -- Counting marks. Assumes nothing.
-use Rattle.std.proofs.Common.{◌≡◌, ℕ, ◌+◌, ◌<◌, ◌≤◌, List, [], ◌∷◌, ◌++◌, length, get_or, drop, sym, ap, ◌∙◌, arith}
-use Rattle.std.proofs.lemmas.List.{at_drop_more, at_drop_all}
+use Rattle.std.proofs.Common.{◌≡◌, ℕ, ◌+◌, List, [], ◌∷◌, ◌++◌, refl, ap, arith}
+use Rattle.harq.specs.Words.{all_of}
 use Rattle.gnb.specs.declared.counts.Counts.{Counts}
 use Rattle.gnb.specs.declared.marks.Mark.{Mark}
 use Rattle.gnb.specs.declared.marks.Mark.TheVariants.{Negative, Delivered, Unanswered}
-use Rattle.gnb.specs.declared.marks.Marks.{Marks}
-use Rattle.gnb.specs.declared.marks.Marks.TheVariants.{One, Two}
-use Rattle.gnb.specs.Readings.{marks_in, how_often, with_marks, marked}
+use Rattle.gnb.specs.declared.marks.Marks.TheVariants.{One}
+use Rattle.gnb.specs.Readings.{marks_in, how_often, with_marks}
 
 pub often_append : (m : Mark) (xs ys : List Mark) → how_often m (xs ++ ys) ≡ how_often m xs + how_often m ys
 often_append m [] ys = omega arith
@@ -23,32 +22,6 @@ with_more c xs ys =
     counts_are c.granted _ _ _ _ _ _
     (omega (arith, often_append Delivered xs ys)) (omega (arith, often_append Negative xs ys)) (omega (arith, often_append Unanswered xs ys))
 
--- each mark is one of the three
-pub marked_one : (c : Counts) (m : Mark) → marked (with_marks c (m ∷ [])) ≡ marked c + 1
-marked_one c Negative = omega arith
-marked_one c Delivered = omega arith
-marked_one c Unanswered = omega arith
-
-pub marked_more : (c : Counts) (xs : List Mark) → marked (with_marks c xs) ≡ marked c + length xs
-marked_more c [] = omega arith
-marked_more c (x ∷ xs) =
-    omega (arith, ap marked (with_more c (x ∷ []) xs), marked_more (with_marks c (x ∷ [])) xs, marked_one c x)
-
-pub marks_few : (m : Marks) → length (marks_in m) ≤ 2
-marks_few (One a) = omega arith
-marks_few (Two a b) = omega arith
-
--- a loop that counts the marks of each element of a list
-module _ {X : Type 0} (F : List X → List Mark) (f : X → List Mark) (none : F [] ≡ []) (step : (x : X) (xs : List X) → F (x ∷ xs) ≡ f x ++ F xs)
-    (c all : Counts) (xs : List X) (i : ℕ) (inv : with_marks c (F (drop i xs)) ≡ all) where
-  pub count_more : (d : X) (c' : Counts) → i < length xs → c' ≡ with_marks c (f (get_or xs i d)) → with_marks c' (F (drop (i + 1) xs)) ≡ all
-  count_more d c' h is =
-      ap (λ (k : Counts). with_marks k (F (drop (i + 1) xs))) is ∙ with_more c (f (get_or xs i d)) (F (drop (i + 1) xs))
-      ∙ ap (with_marks c) (sym (step (get_or xs i d) (drop (i + 1) xs)))
-      ∙ sym (at_drop_more (λ ys. with_marks c (F ys)) xs i d h) ∙ inv
-
-  with_none : with_marks c [] ≡ c
-  with_none = counts_are c.granted _ _ _ _ _ _ (omega arith) (omega arith) (omega arith)
-
-  pub count_all : length xs ≤ i → c ≡ all
-  count_all h = sym with_none ∙ ap (with_marks c) (sym none) ∙ sym (at_drop_all (λ ys. with_marks c (F ys)) xs i h) ∙ inv
+pub marks_alone : (marks : List Mark) → all_of (λ m. marks_in (One m)) marks ≡ marks
+marks_alone [] = refl
+marks_alone (m ∷ marks) = ap (λ (l : List Mark). m ∷ l) (marks_alone marks)

@@ -10,7 +10,8 @@ use Rattle.harq.specs.SpsLists.{unfit_from}
 use Rattle.gnb.specs.declared.batches.BatchState.{BatchState}
 use Rattle.gnb.specs.declared.marks.Mark.{Mark}
 use Rattle.gnb.specs.declared.marks.Mark.TheVariants.{Unanswered}
-use Rattle.gnb.specs.declared.states.Numbering.{Numbering}
+use Rattle.gnb.specs.declared.states.Open.{Open}
+use Rattle.gnb.specs.declared.states.State.{State}
 
 -- why opening is declined: the configuration, the SPS list, then too few marks
 abbrev pub opening_refused : Config → List SpsEntry → ℕ → Option Refusal
@@ -42,6 +43,6 @@ abbrev pub marks_opened : Config → List SpsEntry → List Mark → List Mark
 marks_opened g sps marks = marks_by (opening_refused g sps (length marks)) (length sps) marks
 
 -- a state by its numbers
-abbrev pub batch_of : Result Numbering Refusal → Result BatchState Refusal
+abbrev pub batch_of : Result (State Open) Refusal → Result BatchState Refusal
 batch_of (Ok n) = Ok n.batch
 batch_of (Err e) = Err e

@@ -12,13 +12,21 @@ use Rattle.gnb.specs.declared.marks.Mark.{Mark}
 use Rattle.gnb.specs.declared.marks.Mark.TheVariants.{Negative, Delivered, Unanswered}
 use Rattle.gnb.specs.declared.marks.Marks.{Marks}
 use Rattle.gnb.specs.declared.marks.Marks.TheVariants.{One, Two}
-use Rattle.gnb.specs.declared.states.Awaiting.{Awaiting}
+use Rattle.gnb.specs.declared.states.Closed.{Closed}
+use Rattle.gnb.specs.declared.states.State.{State}
+use denote.Ref.{Bor}
+use Rattle.sink.specs.Bits.{bits_of}
 use Rattle.gnb.specs.Marks.{mark_number}
 use Rattle.gnb.specs.Calls.{expected}
 
 -- the report answers: it has the expected length, and the bytes hold it
 abbrev pub answering : BatchState → ℕ → ℕ → Bool
 answering b bytes long = long == expected b && nat_le long (8 * bytes)
+
+-- the bits of a report that answers; none where there is none
+abbrev pub bits_heard : Option (Bor (List ℕ)) → List Bool
+bits_heard None = []
+bits_heard (Some bytes) = bits_of bytes.now
 
 -- the mark by bit p of a report; unanswered where the report does not answer
 abbrev pub mark_by : Bool → List Bool → ℕ → Mark
@@ -134,9 +142,9 @@ marks_settled None b answers bits marks = sps_read b answers bits marks
 marks_settled (Some e) b answers bits marks = marks
 
 -- the answer, with a state that is handed back by its numbers
-abbrev pub state_of : Refusal × Awaiting → Refusal × BatchState
+abbrev pub state_of : Refusal × State Closed → Refusal × BatchState
 state_of e = (e.0, e.1.batch)
 
-abbrev pub settled_of : Result Counts (Refusal × Awaiting) → Result Counts (Refusal × BatchState)
+abbrev pub settled_of : Result Counts (Refusal × State Closed) → Result Counts (Refusal × BatchState)
 settled_of (Ok c) = Ok c
 settled_of (Err e) = Err (state_of e)

@@ -1,6 +1,9 @@
 // What became of the blocks of a batch, counted from their marks.
 ghost use Rattle.std.specs.Prelude.{◌≡◌, ◌+◌, ◌*◌, ◌<◌, ◌≤◌, [], ◌∷◌, length};
-ghost use Rattle.gnb.specs.Readings.{marks_in, entry_marks, with_marks, marked, none_counted};
+ghost use Rattle.harq.specs.Words.{all_of};
+ghost use Rattle.gnb.specs.Readings.{marks_in, with_marks, marked, none_counted};
+ghost use Rattle.gnb.specs.declared.marks.Marks.{Marks};
+ghost use Rattle.gnb.specs.declared.marks.Marks.TheVariants.{One};
 
 use crate::grants::GrantEntry;
 use crate::marks::{Mark, Marks};
@@ -39,8 +42,8 @@ impl Counts {
         counts
     }
 
-    // With the marks of an entry.
-    fn with_entry(self, marks: Marks) -> Counts
+    // With the marks of one item.
+    fn with_one(self, marks: Marks) -> Counts
         requires { marked self < 4095 }
         ensures { result ≡ with_marks self (marks_in marks) }
     {
@@ -49,29 +52,41 @@ impl Counts {
             Marks::Two(first, second) => self.with_mark(first).with_mark(second),
         }
     }
+
+    // With the marks of each item.
+    pub(crate) fn with_all<T: Marked>(self, items: &[T]) -> Counts
+        requires { marked self + 2 * length items.now ≤ 4096 }
+        ensures is { result ≡ with_marks self (all_of (λ x. marks_in (T.marks_of x)) items.now) }
+        ensures few { marked result ≤ marked self + 2 * length items.now }
+    {
+        let mut counts = self;
+        for item in items {
+            counts = counts.with_one(item.marks());
+        }
+        counts
+    }
 }
 
-// With the marks of each entry.
-pub(crate) fn count_entries(start: Counts, entries: &[GrantEntry]) -> Counts
-    requires { (marked start ≤ 1024) × (length entries.now ≤ 512) }
-    ensures is { result ≡ with_marks start (entry_marks entries.now) }
-    ensures few { marked result ≤ marked start + 2 * length entries.now }
-{
-    let mut counts = start;
-    for e in entries {
-        counts = counts.with_entry(e.marks);
-    }
-    counts
+// What has marks to count.
+pub(crate) trait Marked {
+    ghost marks_of: { Self → Marks };
+
+    fn marks(&self) -> Marks
+        ensures { result ≡ marks_of self.now };
 }
 
-// With each mark of a list.
-pub(crate) fn count_marks(start: Counts, marks: &[Mark]) -> Counts
-    requires { (marked start ≤ 2048) × (length marks.now ≤ 64) }
-    ensures { result ≡ with_marks start marks.now }
-{
-    let mut counts = start;
-    for mark in marks {
-        counts = counts.with_mark(*mark);
+impl Marked for Mark {
+    ghost marks_of = { One };
+
+    fn marks(&self) -> Marks {
+        Marks::One(*self)
     }
-    counts
+}
+
+impl Marked for GrantEntry {
+    ghost marks_of = { λ entry. entry.marks };
+
+    fn marks(&self) -> Marks {
+        self.marks
+    }
 }

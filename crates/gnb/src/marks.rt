@@ -46,6 +46,7 @@ impl fmt::Display for Mark {
 }
 
 // One mark for each block of an assignment; one without a block has one too.
+// A type of its own beside the UE's slot of outcomes: no method is common to both, so that one over any element would only rename them.
 #[derive(Clone, Copy, Debug, PartialEq, Eq)]
 pub enum Marks {
     One(Mark),

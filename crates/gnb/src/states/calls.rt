@@ -6,91 +6,21 @@ ghost use Rattle.sink.specs.Written.{written};
 ghost use Rattle.gnb.specs.Limits.{next_occasion};
 ghost use Rattle.gnb.specs.Marks.{answered_blocks};
 ghost use Rattle.gnb.specs.Calls.{allowed, grant_refused, grants_refused, occasion_refused, call_refused, field_by, entry_of, entries_of, blocks_in, call_answer, batch_after, table_after, expected};
-ghost use Rattle.gnb.specs.Entries.{front, entry_at};
+ghost use Rattle.gnb.specs.Entries.{entry_at};
 
-use super::{Awaiting, Numbering};
-use crate::batches::BatchState;
+use super::{Awaiting, Numbering, State};
 use crate::grants::{Grant, GrantEntry};
 use crate::marks::Marks;
 use harq::{Config, Placer, Refusal};
-
-// One grant, where `lowest` is the lowest cell that may come.
-fn check_grant(config: &Config, occasion: u32, lowest: u32, a: &Grant) -> Result<(), Refusal>
-    ensures { result ≡ allowed (grant_refused config.now occasion lowest a.now) }
-{
-    if a.cell >= config.cells {
-        return Err(Refusal::Range);
-    }
-    if a.cell < lowest {
-        return Err(Refusal::Order);
-    }
-    if !config.counts(a.cell, occasion) {
-        return Err(Refusal::Early);
-    }
-    if config.layout(a.format).is_none() {
-        return Err(Refusal::Field);
-    }
-    if !config.blocks_within(a.blocks) {
-        return Err(Refusal::Blocks);
-    }
-    Ok(())
-}
-
-// The grants of a call in turn: at most one for each cell.
-fn check_grants(config: &Config, occasion: u32, grants: &[Grant]) -> Result<(), Refusal>
-    requires { config.now.cells ≤ 16 }
-    ensures is { result ≡ allowed (grants_refused config.now occasion 0 grants.now) }
-    ensures few { OnOk result (length grants.now ≤ config.now.cells) }
-{
-    let mut lowest = 0;
-    for a in grants {
-        check_grant(config, occasion, lowest, a)?;
-        lowest = a.cell + 1;
-    }
-    Ok(())
-}
-
-fn check_occasion(batch: &BatchState, occasion: u32) -> Result<(), Refusal>
-    ensures { result ≡ allowed (occasion_refused batch.now occasion) }
-{
-    if occasion >= batch.config.occasions {
-        return Err(Refusal::Range);
-    }
-    match batch.last {
-        Some(last) if occasion <= last => Err(Refusal::Order),
-        _ => Ok(()),
-    }
-}
-
-// A call is judged: the occasion, each grant, then the table.
-fn check_call(
-    batch: &BatchState,
-    table: usize,
-    occasion: u32,
-    grants: &[Grant],
-) -> Result<(), Refusal>
-    requires { (batch.now.config.cells ≤ 16) × (batch.now.numbered ≤ 512) }
-    ensures is { result ≡ allowed (call_refused batch.now table occasion grants.now) }
-    ensures few { OnOk result (length grants.now ≤ batch.now.config.cells) }
-    ensures space { OnOk result (batch.now.numbered + length grants.now ≤ table) }
-    ensures later { OnOk result ((occasion < batch.now.config.occasions) × (next_occasion batch.now.last ≤ occasion)) }
-{
-    check_occasion(batch, occasion)?;
-    check_grants(&batch.config, occasion, grants)?;
-    if table < batch.numbered as usize + grants.len() {
-        return Err(Refusal::Table);
-    }
-    Ok(())
-}
+use std::marker::PhantomData;
 
 // The DAI field of number k, where `total` are numbered with its call.
 fn field_of(config: &Config, format: u32, k: u32, total: u32) -> u32
     ensures { result ≡ field_by (layout_of config.now format) k total }
 {
-    match config.layout(format) {
-        Some(layout) => dai::code(layout, k, total),
-        None => 0,
-    }
+    config
+        .layout(format)
+        .map_or(0, |layout| dai::code(layout, k, total))
 }
 
 fn entry_of(config: &Config, occasion: u32, total: u32, k: u32, a: &Grant) -> GrantEntry
@@ -115,33 +45,6 @@ fn counter_of(span: u32, k: u32) -> u32
     k.saturating_sub(1) % span + 1
 }
 
-// Places the entries of a call's grants in the table, each by its counter, behind the first `numbered`.
-fn place_entries(
-    config: &Config,
-    occasion: u32,
-    numbered: u32,
-    grants: &[Grant],
-    table: &mut [GrantEntry],
-)
-    requires small { numbered + length grants.now ≤ 1024 }
-    requires space { numbered + length grants.now ≤ length table.old }
-    ensures { table.new ≡ written table.old numbered (entries_of config.now occasion (numbered + length grants.now) numbered grants.now) }
-{
-    let span = config.span();
-    let total = numbered + grants.len() as u32;
-    let mut placer = Placer::after(span, numbered);
-    let mut k = numbered;
-    for a in grants {
-        k += 1;
-        // The place is in the table: its space has been judged.
-        let _ = placer.place(
-            table,
-            counter_of(span, k),
-            entry_of(config, occasion, total, k, a),
-        );
-    }
-}
-
 // The blocks of a grant that ask an answer: one without a block counts as one.
 fn answered_blocks(blocks: u32) -> u32
     ensures { result ≡ answered_blocks blocks }
@@ -155,46 +58,108 @@ fn count_blocks(grants: &[Grant]) -> u32
     ensures is { result ≡ blocks_in grants.now }
     ensures few { result ≤ 2 * length grants.now }
 {
-    let mut blocks = 0;
-    for a in grants {
-        blocks += answered_blocks(a.blocks);
-    }
-    blocks
+    grants.iter().map(|a| answered_blocks(a.blocks)).sum()
 }
 
-// The entry at a place of the table, if there is one.
-fn entry_in(table: &[GrantEntry], place: usize) -> Option<GrantEntry>
-    ensures { result ≡ front (drop place table.now) }
-{
-    if place < table.len() {
-        Some(table[place])
-    } else {
-        None
-    }
-}
-
-impl BatchState {
-    // The entry of a number.
-    fn entry(&self, table: &[GrantEntry], number: u32) -> Option<GrantEntry>
-        ensures { result ≡ entry_at self.now.numbered table.now number }
+impl<P> State<P> {
+    // The entry of a number, none outside those numbered or the table.
+    pub fn entry(&self, table: &[GrantEntry], number: u32) -> Option<GrantEntry>
+        ensures { result ≡ entry_at self.now.batch.numbered table.now number }
     {
-        if 1 <= number && number <= self.numbered {
-            entry_in(table, number as usize - 1)
+        if (1..=self.batch.numbered).contains(&number) {
+            table.get(number as usize - 1).copied()
         } else {
             None
         }
     }
-
-    // The length of the report that answers all.
-    pub(super) fn expected(&self) -> usize
-        requires { (self.now.numbered ≤ 512) × (self.now.sps ≤ 64) }
-        ensures is { result ≡ expected self.now }
-    {
-        self.config.bits_per_place() * self.numbered as usize + self.sps as usize
-    }
 }
 
 impl Numbering {
+    // One grant, where `lowest` is the lowest cell that may come.
+    fn check_grant(&self, occasion: u32, lowest: u32, a: &Grant) -> Result<(), Refusal>
+        ensures { result ≡ allowed (grant_refused self.now.batch.config occasion lowest a.now) }
+    {
+        let config = &self.batch.config;
+        if a.cell >= config.cells {
+            return Err(Refusal::Range);
+        }
+        if a.cell < lowest {
+            return Err(Refusal::Order);
+        }
+        if !config.counts(a.cell, occasion) {
+            return Err(Refusal::Early);
+        }
+        if config.layout(a.format).is_none() {
+            return Err(Refusal::Field);
+        }
+        if !config.blocks_within(a.blocks) {
+            return Err(Refusal::Blocks);
+        }
+        Ok(())
+    }
+
+    // The grants of a call in turn: at most one for each cell.
+    fn check_grants(&self, occasion: u32, grants: &[Grant]) -> Result<(), Refusal>
+        ensures is { result ≡ allowed (grants_refused self.now.batch.config occasion 0 grants.now) }
+        ensures few { OnOk result (length grants.now ≤ self.now.batch.config.cells) }
+    {
+        let mut lowest = 0;
+        for a in grants {
+            self.check_grant(occasion, lowest, a)?;
+            lowest = a.cell + 1;
+        }
+        Ok(())
+    }
+
+    fn check_occasion(&self, occasion: u32) -> Result<(), Refusal>
+        ensures { result ≡ allowed (occasion_refused self.now.batch occasion) }
+    {
+        if occasion >= self.batch.config.occasions {
+            return Err(Refusal::Range);
+        }
+        if self.batch.last.is_some_and(|last| occasion <= last) {
+            return Err(Refusal::Order);
+        }
+        Ok(())
+    }
+
+    // A call is judged: the occasion, each grant, then the table.
+    fn check_call(&self, table: usize, occasion: u32, grants: &[Grant]) -> Result<(), Refusal>
+        ensures is { result ≡ allowed (call_refused self.now.batch table occasion grants.now) }
+        ensures few { OnOk result (length grants.now ≤ self.now.batch.config.cells) }
+        ensures space { OnOk result (self.now.batch.numbered + length grants.now ≤ table) }
+        ensures later { OnOk result ((occasion < self.now.batch.config.occasions) × (next_occasion self.now.batch.last ≤ occasion)) }
+    {
+        self.check_occasion(occasion)?;
+        self.check_grants(occasion, grants)?;
+        if table < self.batch.numbered as usize + grants.len() {
+            return Err(Refusal::Table);
+        }
+        Ok(())
+    }
+
+    // Places the entries of a call's grants in the table, each by its counter, behind those before.
+    fn place_entries(&self, occasion: u32, grants: &[Grant], table: &mut [GrantEntry])
+        requires few { length grants.now ≤ self.now.batch.config.cells }
+        requires space { self.now.batch.numbered + length grants.now ≤ length table.old }
+        ensures { table.new ≡ written table.old self.now.batch.numbered (entries_of self.now.batch.config occasion (self.now.batch.numbered + length grants.now) self.now.batch.numbered grants.now) }
+    {
+        let config = &self.batch.config;
+        let span = config.span();
+        let numbered = self.batch.numbered;
+        let total = numbered + grants.len() as u32;
+        let mut placer = Placer::after(span, numbered);
+        for (i, a) in grants.iter().enumerate() {
+            let k = numbered + i as u32 + 1;
+            // The place is in the table: its space has been judged.
+            let _ = placer.place(
+                table,
+                counter_of(span, k),
+                entry_of(config, occasion, total, k, a),
+            );
+        }
+    }
+
     // Numbers the grants of one occasion on behind those before, and answers how many are numbered now; a declined call changes nothing.
     pub fn number(
         &mut self,
@@ -206,14 +171,8 @@ impl Numbering {
         ensures batch { self.new.batch ≡ batch_after self.old.batch (length table.old) occasion grants.now }
         ensures table { table.new ≡ table_after self.old.batch occasion grants.now table.old }
     {
-        check_call(&self.batch, table.len(), occasion, grants)?;
-        place_entries(
-            &self.batch.config,
-            occasion,
-            self.batch.numbered,
-            grants,
-            table,
-        );
+        self.check_call(table.len(), occasion, grants)?;
+        self.place_entries(occasion, grants, table);
         let numbered = self.batch.numbered + grants.len() as u32;
         let granted = self.batch.granted + count_blocks(grants);
         self.batch.last = Some(occasion);
@@ -222,29 +181,26 @@ impl Numbering {
         Ok(numbered)
     }
 
-    // The entry of a number, none outside those numbered or the table.
-    pub fn entry(&self, table: &[GrantEntry], number: u32) -> Option<GrantEntry>
-        ensures { result ≡ entry_at self.now.batch.numbered table.now number }
-    {
-        self.batch.entry(table, number)
-    }
-
     // Ends numbering: the length of the report to expect, and the state that awaits it.
     pub fn close(self) -> (usize, Awaiting)
         ensures length { result.0 ≡ expected self.batch }
         ensures batch { result.1.batch ≡ self.batch }
     {
-        let Numbering { batch } = self;
-        let length = batch.expected();
-        (length, Awaiting { batch })
+        let Numbering { batch, phase: _ } = self;
+        let awaiting = Awaiting {
+            batch,
+            phase: PhantomData,
+        };
+        (awaiting.expected(), awaiting)
     }
 }
 
 impl Awaiting {
-    // The entry of a number, none outside those numbered or the table.
-    pub fn entry(&self, table: &[GrantEntry], number: u32) -> Option<GrantEntry>
-        ensures { result ≡ entry_at self.now.batch.numbered table.now number }
+    // The length of the report that answers all.
+    pub(super) fn expected(&self) -> usize
+        ensures { result ≡ expected self.now.batch }
     {
-        self.batch.entry(table, number)
+        let grants = self.batch.numbered as usize;
+        self.batch.config.bits_per_place() * grants + self.batch.sps as usize
     }
 }

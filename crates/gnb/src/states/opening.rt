@@ -10,26 +10,14 @@ use crate::grants::GrantEntry;
 use crate::marks::Mark;
 use harq::sps::first_unfit;
 use harq::{Config, Refusal, SpsEntry};
-
-// The first marks become unanswered.
-fn clear_marks(marks: &mut [Mark], count: usize)
-    requires { count ≤ length marks.old }
-    ensures { marks.new ≡ replicate count Unanswered ++ drop count marks.old }
-{
-    for i in 0..count {
-        marks[i] = Mark::Unanswered;
-    }
-}
+use std::marker::PhantomData;
 
 // Whether an SPS list is within limits and in order.
 fn is_in_order(config: &Config, sps: &[SpsEntry]) -> bool
     ensures is { result ≡ not (is_some (unfit_from (λ e. e) (λ _. true) config.now 0 None sps.now)) }
     ensures few { result ≡ true → length sps.now ≤ 64 }
 {
-    match first_unfit(config, sps) {
-        None => true,
-        Some(_) => false,
-    }
+    first_unfit(config, sps).is_none()
 }
 
 impl Numbering {
@@ -52,7 +40,7 @@ impl Numbering {
         if marks.len() < sps.len() {
             return Err(Refusal::Table);
         }
-        clear_marks(marks, sps.len());
+        marks[..sps.len()].fill(Mark::Unanswered);
         let count = sps.len() as u32;
         Ok(Numbering {
             batch: BatchState {
@@ -62,6 +50,7 @@ impl Numbering {
                 numbered: 0,
                 granted: count,
             },
+            phase: PhantomData,
         })
     }
 }

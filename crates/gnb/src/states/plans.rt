@@ -47,6 +47,6 @@ pub fn plan(
     let mut numbering = Numbering::open(config, sps, table, marks)?;
     numbering.number_all(table, calls);
     let (expected, awaiting) = numbering.close();
-    let Awaiting { batch: _ } = awaiting;
+    let Awaiting { batch: _, phase: _ } = awaiting;
     Ok(expected)
 }

@@ -1,77 +1,70 @@
 // Settlement: the report is read, or declared absent.
-ghost use Rattle.std.specs.Prelude.{◌≡◌, ℕ, ◌+◌, ◌*◌, ◌<◌, ◌≤◌, true, false, [], length};
+ghost use Rattle.std.specs.Prelude.{◌≡◌, ℕ, ◌+◌, ◌≤◌, false, cond, [], length, is_some, Some, None};
 ghost use Rattle.harq.specs.Words.{every};
 ghost use Rattle.sink.specs.Bits.{bits_of};
-ghost use Rattle.gnb.specs.Readings.{answering, mark_by, block_bit, marks_by, entry_read, firsts, table_read, sps_read, counted, too_short, has_place, reading_refused, absence_refused, settled, table_settled, marks_settled, settled_of};
+ghost use Rattle.gnb.specs.Readings.{answering, bits_heard, mark_by, block_bit, marks_by, entry_read, firsts, table_read, sps_read, counted, too_short, has_place, reading_refused, absence_refused, settled, table_settled, marks_settled, settled_of};
 
 use super::Awaiting;
 use crate::batches::BatchState;
-use crate::counts::{Counts, count_entries, count_marks};
+use crate::counts::Counts;
 use crate::grants::GrantEntry;
 use crate::marks::{Mark, Marks};
-use harq::{Config, Refusal};
+use harq::{Config, Mode, Refusal};
 use sink::bit_at;
 
-// The mark by a bit of a report.
-fn mark_at(answers: bool, bytes: &[u8], index: usize) -> Mark
-    ensures { result ≡ mark_by answers (bits_of bytes.now) index }
+// The mark by a bit of a report; no report answers no block.
+fn mark_at(report: Option<&[u8]>, index: usize) -> Mark
+    ensures { result ≡ mark_by (is_some report.entry) (bits_heard report.entry) index }
 {
-    if !answers {
-        return Mark::Unanswered;
-    }
-    match bit_at(bytes, index) {
-        Some(bit) => if bit { Mark::Delivered } else { Mark::Negative },
-        None => Mark::Negative,
+    match report {
+        Some(bytes) => Mark::from(bit_at(bytes, index).unwrap_or(false)),
+        None => Mark::Unanswered,
     }
 }
 
-// Where the bit of a block stands: in mode 1 each block has its own, else both have one.
+// Where the bit of a block stands: with two blocks each has its own, else both have one.
 fn block_bit(config: &Config, number: u32, block: usize) -> usize
     requires { block ≤ 1 }
     ensures { result ≡ block_bit config.now number block }
 {
     let place = (number as usize).saturating_sub(1);
-    let within = if config.mode == 1 { block } else { 0 };
+    let within = match Mode::try_from(config.mode) {
+        Ok(Mode::TwoBlocks) => block,
+        _ => 0,
+    };
     config.bits_per_place() * place + within
 }
 
 // Each block's mark by its own bit.
-fn marks_at(config: &Config, answers: bool, bytes: &[u8], number: u32, marks: Marks) -> Marks
-    ensures { result ≡ marks_by config.now answers (bits_of bytes.now) number marks }
+fn marks_at(config: &Config, report: Option<&[u8]>, number: u32, marks: Marks) -> Marks
+    ensures { result ≡ marks_by config.now (is_some report.entry) (bits_heard report.entry) number marks }
 {
-    let first = mark_at(answers, bytes, block_bit(config, number, 0));
+    let first = mark_at(report, block_bit(config, number, 0));
     match marks {
         Marks::One(_) => Marks::One(first),
-        Marks::Two(_, _) => {
-            let second = mark_at(answers, bytes, block_bit(config, number, 1));
+        Marks::Two(..) => {
+            let second = mark_at(report, block_bit(config, number, 1));
             Marks::Two(first, second)
         }
     }
 }
 
-// Marks the first entries of the table.
-fn mark_entries(
-    config: &Config,
-    answers: bool,
-    bytes: &[u8],
-    count: usize,
-    table: &mut [GrantEntry],
-)
-    requires { count ≤ length table.old }
-    ensures { table.new ≡ firsts (λ _ e. entry_read config.now answers (bits_of bytes.now) e) 0 count table.old }
+// Marks entries of the table.
+fn mark_entries(config: &Config, report: Option<&[u8]>, entries: &mut [GrantEntry])
+    ensures { entries.new ≡ firsts (λ _ e. entry_read config.now (is_some report.entry) (bits_heard report.entry) e) 0 (length entries.old) entries.old }
 {
-    for i in 0..count {
-        table[i].marks = marks_at(config, answers, bytes, table[i].number, table[i].marks);
+    for entry in entries.iter_mut() {
+        entry.marks = marks_at(config, report, entry.number, entry.marks);
     }
 }
 
-// Marks the first SPS entries, whose bits begin at `start`.
-fn mark_sps(answers: bool, bytes: &[u8], start: usize, count: usize, marks: &mut [Mark])
-    requires { (start ≤ 1024) × ((count ≤ 64) × (count ≤ length marks.old)) }
-    ensures { marks.new ≡ firsts (λ i _. mark_by answers (bits_of bytes.now) (start + i)) 0 count marks.old }
+// Marks SPS entries, whose bits begin at `start`.
+fn mark_sps(report: Option<&[u8]>, start: usize, marks: &mut [Mark])
+    requires { (start ≤ 1024) × (length marks.old ≤ 64) }
+    ensures { marks.new ≡ firsts (λ i _. mark_by (is_some report.entry) (bits_heard report.entry) (start + i)) 0 (length marks.old) marks.old }
 {
-    for i in 0..count {
-        marks[i] = mark_at(answers, bytes, start + i);
+    for (i, mark) in marks.iter_mut().enumerate() {
+        *mark = mark_at(report, start + i);
     }
 }
 
@@ -79,19 +72,14 @@ fn mark_sps(answers: bool, bytes: &[u8], start: usize, count: usize, marks: &mut
 fn has_place(e: &GrantEntry, n: u32) -> bool
     ensures { result ≡ has_place n e.now }
 {
-    1 <= e.number && e.number <= n
+    (1..=n).contains(&e.number)
 }
 
 // Whether each entry has one.
 fn have_places(entries: &[GrantEntry], n: u32) -> bool
     ensures { result ≡ every (has_place n) entries.now }
 {
-    for e in entries {
-        if !has_place(e, n) {
-            return false;
-        }
-    }
-    true
+    entries.iter().all(|e| has_place(e, n))
 }
 
 impl BatchState {
@@ -101,41 +89,36 @@ impl BatchState {
     {
         table < self.numbered as usize || marks < self.sps as usize
     }
-
-    // Whether a report of so many bits is the one that is expected, and the bytes hold it.
-    fn is_answered(&self, bytes: usize, bits: usize) -> bool
-        requires { (self.now.numbered ≤ 512) × (self.now.sps ≤ 64) }
-        ensures { result ≡ answering self.now bytes bits }
-    {
-        let expected = self.expected();
-        bits == expected && expected.div_ceil(8) <= bytes
-    }
-
-    // Marks all blocks, and counts the marks.
-    fn settle(
-        &self,
-        answers: bool,
-        bytes: &[u8],
-        table: &mut [GrantEntry],
-        marks: &mut [Mark],
-    ) -> Counts
-        requires small { (self.now.numbered ≤ 512) × (self.now.sps ≤ 64) }
-        requires lent { too_short self.now (length table.old) (length marks.old) ≡ false }
-        ensures counts { result ≡ counted self.now (table_read self.now answers (bits_of bytes.now) table.old) (sps_read self.now answers (bits_of bytes.now) marks.old) }
-        ensures table { table.new ≡ table_read self.now answers (bits_of bytes.now) table.old }
-        ensures marks { marks.new ≡ sps_read self.now answers (bits_of bytes.now) marks.old }
-    {
-        let grants = self.numbered as usize;
-        let sps = self.sps as usize;
-        mark_entries(&self.config, answers, bytes, grants, table);
-        let behind = self.config.bits_per_place() * grants;
-        mark_sps(answers, bytes, behind, sps, marks);
-        let counts = count_entries(Counts::none(self.granted), &table[0..grants]);
-        count_marks(counts, &marks[0..sps])
-    }
 }
 
 impl Awaiting {
+    // The report of so many bits, if it is the one that is expected and the bytes hold it.
+    fn answered_by<'a>(&self, bytes: &'a [u8], bits: usize) -> Option<&'a [u8]>
+        ensures { result ≡ cond (answering self.now.batch (length bytes.now) bits) (Some bytes.entry) None }
+    {
+        let expected = self.expected();
+        (bits == expected && expected.div_ceil(8) <= bytes.len()).then_some(bytes)
+    }
+
+    // Marks all blocks, and counts the marks.
+    fn settle(self, report: Option<&[u8]>, table: &mut [GrantEntry], marks: &mut [Mark]) -> Counts
+        requires { too_short self.batch (length table.old) (length marks.old) ≡ false }
+        ensures counts { result ≡ counted self.batch (table_read self.batch (is_some report.entry) (bits_heard report.entry) table.old) (sps_read self.batch (is_some report.entry) (bits_heard report.entry) marks.old) }
+        ensures table { table.new ≡ table_read self.batch (is_some report.entry) (bits_heard report.entry) table.old }
+        ensures marks { marks.new ≡ sps_read self.batch (is_some report.entry) (bits_heard report.entry) marks.old }
+    {
+        let Awaiting { batch, phase: _ } = self;
+        let entries = &mut table[..batch.numbered as usize];
+        let sps = &mut marks[..batch.sps as usize];
+        mark_entries(&batch.config, report, entries);
+        mark_sps(
+            report,
+            batch.config.bits_per_place() * batch.numbered as usize,
+            sps,
+        );
+        Counts::none(batch.granted).with_all(entries).with_all(sps)
+    }
+
     // Reads a report of that many bits, packed into bytes, the top bit first. The blocks are marked by their bits if it is the one that is
     // expected, else as unanswered, and the counts of the marks are answered; a declined reading changes nothing and hands the state back.
     pub fn read(
@@ -152,13 +135,12 @@ impl Awaiting {
         if self.batch.lacks(table.len(), marks.len()) {
             return Err((Refusal::Table, self));
         }
-        let answers = self.batch.is_answered(bytes.len(), bits);
+        let report = self.answered_by(bytes, bits);
         let grants = self.batch.numbered;
-        if answers && !have_places(&table[0..grants as usize], grants) {
+        if report.is_some() && !have_places(&table[..grants as usize], grants) {
             return Err((Refusal::Place, self));
         }
-        let Awaiting { batch } = self;
-        Ok(batch.settle(answers, bytes, table, marks))
+        Ok(self.settle(report, table, marks))
     }
 
     // No report came: every block is unanswered.
@@ -174,7 +156,6 @@ impl Awaiting {
         if self.batch.lacks(table.len(), marks.len()) {
             return Err((Refusal::Table, self));
         }
-        let Awaiting { batch } = self;
-        Ok(batch.settle(false, &[], table, marks))
+        Ok(self.settle(None, table, marks))
     }
 }

@@ -1,17 +1,15 @@
-use Rattle.std.proofs.Common.{arith}
-use Rattle.std.proofs.lemmas.List.{at_drop_all}
-use Rattle.std.proofs.lemmas.Bool.Decides.{nat_tests}
+use Rattle.std.proofs.Common.{◌≡◌, sum_by, refl, sym, ◌∙◌, arith, rules}
+use Rattle.std.proofs.iter.runs.Made.{chains}
+use Rattle.std.proofs.lemmas.List.Recursion.{is_sum_by}
+use Rattle.gnb.specs.declared.grants.Grant.{Grant}
+use Rattle.gnb.specs.Marks.{answered_blocks}
 use Rattle.gnb.specs.Calls.{blocks_in}
-use Rattle.gnb.proofs.Calling.{blocks_more}
+use Rattle.gnb.proofs.Calling.{blocks_few}
 use Rattle.gnb.proofs.states.calls.count_blocks.Goals as goal
-
-pub loop-a-preserved : goal.loop-a-preserved
-loop-a-preserved c = (
-  blocks_more c.loop-a.blocks c.answered_blocks-blocks.result _ c.args.grants.now c.loop-a.a-index record { cell = 0; format = 0; blocks = 0 } c.loop-a-test.true c.answered_blocks-blocks.ensures c.loop-a.invariant.0,
-  grind (arith, nat_tests),
-)
 
 pub returns : goal.returns
 returns c =
-    let all = at_drop_all blocks_in c.args.grants.now c.loop-a.a-index c.loop-a-test.false in
-    record { is = omega arith; few = omega arith }
+    let gs = c.args.grants.now in
+    let sums : c.sum.result ≡ sum_by (λ (a : Grant). answered_blocks a.blocks) gs = search (rules, chains) in
+    let is : c.sum.result ≡ blocks_in gs = sums ∙ sym (is_sum_by blocks_in (λ a. answered_blocks a.blocks) refl (λ _ _. refl) gs) in
+    record { is = is; few = omega (arith, is, blocks_few gs) }

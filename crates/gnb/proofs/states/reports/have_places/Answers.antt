@@ -1,22 +1,14 @@
-use Rattle.std.proofs.Common.{◌+◌, ◌&&◌, drop, sym, ap, ◌∙◌}
-use Rattle.std.proofs.lemmas.List.{at_drop_more, at_drop_all}
+use Rattle.std.proofs.Common.{◌&&◌, refl, ◌∙◌, rules, tests}
+use Rattle.std.specs.List.{list_all}
+use Rattle.std.proofs.lemmas.Iterator.{YieldsList-from_slice}
+use Rattle.std.proofs.lemmas.Iterator.Search.{all_from_yields_List}
+use Rattle.std.proofs.lemmas.List.Recursion.{same_from_clauses}
 use Rattle.harq.specs.Words.{every}
-use Rattle.gnb.specs.declared.marks.Mark.TheVariants.{Negative}
-use Rattle.gnb.specs.declared.marks.Marks.TheVariants.{One}
 use Rattle.gnb.specs.Readings.{has_place}
 use Rattle.gnb.proofs.states.reports.have_places.Goals as goal
 
-pub returns-then-not-has_place : goal.returns-then-not-has_place
-returns-then-not-has_place c =
-    let all = every (has_place c.args.n) in
-    let step = at_drop_more all c.args.entries.now c.loop-e.e-index record { cell = 0; occasion = 0; format = 0; blocks = 0; number = 0; field = 0; marks = One Negative } c.loop-e-test.true in
-    sym (sym c.loop-e.invariant ∙ step ∙ ap (λ b. b && all (drop (c.loop-e.e-index + 1) c.args.entries.now)) (sym c.if-not-has_place.ensures))
-
-pub loop-e-preserved : goal.loop-e-preserved
-loop-e-preserved c =
-    let all = every (has_place c.args.n) in
-    let step = at_drop_more all c.args.entries.now c.loop-e.e-index record { cell = 0; occasion = 0; format = 0; blocks = 0; number = 0; field = 0; marks = One Negative } c.loop-e-test.true in
-    ap (λ b. b && all (drop (c.loop-e.e-index + 1) c.args.entries.now)) c.if-not-has_place.ensures ∙ sym step ∙ c.loop-e.invariant
-
 pub returns : goal.returns
-returns c = sym (sym c.loop-e.invariant ∙ at_drop_all (every (has_place c.args.n)) _ _ c.loop-e-test.false)
+returns c =
+    let test = has_place c.args.n in
+    all_from_yields_List test _ _ _ c.all.ensures.ran (YieldsList-from_slice c.args.entries.now cc) (λ x b q k. search (rules, tests))
+    ∙ same_from_clauses (list_all test) (every test) (λ e b. test e && b) refl (λ _ _. refl) (λ _ _. refl) c.args.entries.now

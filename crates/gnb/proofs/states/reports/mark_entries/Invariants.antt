@@ -1,7 +1,6 @@
-use Rattle.std.proofs.Common.{◌≡◌}
-use Rattle.sink.specs.Bits.{bits_of}
-use Rattle.gnb.specs.Readings.{firsts, entry_read}
+use Rattle.std.proofs.Common.{◌≡◌, is_some}
+use Rattle.gnb.specs.Readings.{bits_heard, firsts, entry_read}
 use Rattle.gnb.proofs.states.reports.mark_entries.Given as goal
 
-abbrev pub invariant-loop-i : goal.invariant-loop-i
-invariant-loop-i l = l.table ≡ firsts (λ _ e. entry_read l.config l.answers (bits_of l.bytes) e) 0 l.i l.initial.table
+abbrev pub invariant-loop-entry : goal.invariant-loop-entry
+invariant-loop-entry l = l.entries ≡ firsts (λ _ e. entry_read l.config (is_some l.report) (bits_heard l.report) e) 0 l.entry-index l.initial.entries

@@ -1,7 +1,7 @@
 use Rattle.std.proofs.Common.{◌≡◌, map, drop}
 use Rattle.gnb.specs.Sending.{batch_run, table_run}
 use Rattle.gnb.specs.Plans.{call_of}
-use Rattle.gnb.proofs.states.Numbering.number_each.Given as goal
+use Rattle.gnb.proofs.states.plans.Numbering.number_each.Given as goal
 
 abbrev pub invariant-loop-call : goal.invariant-loop-call
 invariant-loop-call l =
