@@ -1,15 +1,17 @@
 -- What holds of a batch that is not declined. Assumes nothing.
+use Rattle.std.specs.Prelude.{flat_map}
+use Rattle.std.specs.Option.{option_or}
 use Rattle.std.proofs.Common.{◌≡◌, ℕ, ◌+◌, ◌*◌, ◌<◌, ◌≤◌, Bool, true, false, cond, eqb, List, [], ◌∷◌, ◌++◌, map, length, is_some, Some, None, Ok, Err, Option, Result, unwrap_or, sym, refl, ap, ◌∙◌, subst, ap₂, arith}
 use Rattle.std.specs.List.{AllByRecursion}
 use Rattle.std.proofs.lemmas.List.{length-append, length-map}
 use Rattle.std.proofs.lemmas.Bool.{not-false, ltb-false, cond_both}
 use Rattle.harq.specs.declared.configs.Config.{Config}
 use Rattle.harq.specs.declared.refusals.Refusal.{Refusal}
-use Rattle.harq.specs.Words.{last_or, or_else, onward, all_of, counting_from}
+use Rattle.harq.specs.Words.{last_or, onward}
 use Rattle.harq.specs.Configs.{span, bits_per_place, config_within, in_range}
 use Rattle.harq.specs.Placing.{places, slot_count}
 use Rattle.harq.specs.PlacingLaws.{Within, Rising, Below, Placed}
-use Rattle.harq.proofs.Rows.{length_counting_from, length_places}
+use Rattle.harq.proofs.Rows.{length_places}
 use Rattle.harq.proofs.Standing.{below_from, placing_stands}
 use Rattle.ue.specs.declared.arrivals.Arrival.{Arrival}
 use Rattle.ue.specs.declared.arrivals.SpsOutcome.{SpsOutcome}
@@ -19,7 +21,9 @@ use Rattle.ue.specs.Slots.{first_bit, second_bit, place_bits}
 use Rattle.ue.specs.Batches.{dai_of, counter, total, counting, brought, counted, counters, total_at, end_value, slots_in}
 use Rattle.ue.specs.Checks.{last_of, rises_above, total_differs, arrival_refused, first_refused, config_judged, slots_or, arrivals_judged, sps_judged, size_judged, length_of, judged}
 use Rattle.ue.specs.Reports.{places_of, held, held_at, sps_bit, report_bits}
-use Rattle.ue.proofs.Pieces.{all_those, length_all_of}
+use Rattle.std.proofs.lemmas.List.FromFn.{length-map-range_with_len}
+use Rattle.std.proofs.ByRecursion.{all_kept_by}
+use Rattle.ue.proofs.Pieces.{length_pieces}
 use Rattle.ue.proofs.Fields.{TotalWithin, read_within, counter_within, total_within}
 
 -- a check that refuses nothing
@@ -62,7 +66,7 @@ module _ (g : Config) where
   go_passing rest earlier a ih None p q = (passed earlier a p, ih q)
   go_passing rest earlier a ih (Some e) p q = let z : ◌≡◌ {A = ℕ} 0 1 = cc in absurd (omega arith)
 
-  passing : (xs earlier : List Arrival) → first_refused g earlier xs ≡ None → Passing g earlier xs
+  pub passing : (xs earlier : List Arrival) → first_refused g earlier xs ≡ None → Passing g earlier xs
   passing [] earlier e = tt
   passing (a ∷ rest) earlier e = go_passing rest earlier a (passing rest (earlier ++ a ∷ [])) (arrival_refused g earlier a) refl e
 
@@ -98,7 +102,7 @@ module _ (g : Config) where
   counters_within [] h = tt
   counters_within (a ∷ xs) h = (counter_within (span g) (dai_of g a) h.0 (read_within g a.format a.field), counters_within xs h.1)
 
-  or_within : (s : ℕ) (o u : Option ℕ) → TotalWithin s o → TotalWithin s u → TotalWithin s (or_else o u)
+  or_within : (s : ℕ) (o u : Option ℕ) → TotalWithin s o → TotalWithin s u → TotalWithin s (option_or o u)
   or_within s None u h k = k
   or_within s (Some t) u h k = h
 
@@ -133,7 +137,7 @@ module _ (g : Config) where
 module _ (g : Config) (arrivals : List Arrival) (n : ℕ) (e : arrivals_judged g arrivals ≡ Ok n) where
   -- what follows for each counted arrival from its own checks
   pub all_counted : (P : Arrival → Type 0) → ((earlier : List Arrival) (a : Arrival) → Passed g earlier a → P a) → AllByRecursion P (counted g arrivals)
-  all_counted P f = all_those (counting g) P arrivals (all_passing g P f arrivals [] (arrived g arrivals n e).passing)
+  all_counted P f = all_kept_by (counting g) P arrivals (all_passing g P f arrivals [] (arrived g arrivals n e).passing)
 
   counted_read : AllByRecursion (WasRead g) (counted g arrivals)
   counted_read = all_counted (WasRead g) (λ _ a p. p.read)
@@ -165,7 +169,7 @@ onward_ok (Ok x) f y e = (x, (refl, e))
 onward_ok (Err d) f y e = let z : ◌≡◌ {A = ℕ} 0 1 = cc in absurd (omega arith)
 
 -- a check that must hold, and one that must not
-held_ok : {X E : Type 0} (b : Bool) (r : Result X E) (d : E) (x : X) → cond b r (Err d) ≡ Ok x → b ≡ true
+pub held_ok : {X E : Type 0} (b : Bool) (r : Result X E) (d : E) (x : X) → cond b r (Err d) ≡ Ok x → b ≡ true
 held_ok true r d x e = refl
 held_ok false r d x e = let z : ◌≡◌ {A = ℕ} 0 1 = cc in absurd (omega arith)
 
@@ -218,17 +222,17 @@ module _ (g : Config) (arrivals : List Arrival) where
   length_counted_places = length_places (span g) 0 0 (counters g arrivals) ∙ length-map (counted g arrivals) (counter g)
 
   pub length_held : length (held g arrivals) ≡ slots_in g arrivals
-  length_held = length-map (counting_from 0 (slots_in g arrivals)) (held_at g arrivals) ∙ length_counting_from 0 (slots_in g arrivals)
+  length_held = length-map-range_with_len (held_at g arrivals) 0 (slots_in g arrivals)
 
   -- the bits of the slots
-  pub length_slot_bits : length (all_of (place_bits g.mode) (held g arrivals)) ≡ bits_per_place g * slots_in g arrivals
+  pub length_slot_bits : length (flat_map (place_bits g.mode) (held g arrivals)) ≡ bits_per_place g * slots_in g arrivals
   length_slot_bits =
-      length_all_of (place_bits g.mode) (bits_per_place g) (length_place_bits g.mode) (held g arrivals)
+      length_pieces (place_bits g.mode) (bits_per_place g) (length_place_bits g.mode) (held g arrivals)
       ∙ ap (λ (n : ℕ). bits_per_place g * n) length_held
 
   pub length_bits : (sps : List SpsOutcome) → length (report_bits g arrivals sps) ≡ length_of g (slots_in g arrivals) (length sps)
   length_bits sps =
-      length-append (all_of (place_bits g.mode) (held g arrivals)) (map sps_bit sps)
+      length-append (flat_map (place_bits g.mode) (held g arrivals)) (map sps_bit sps)
       ∙ ap₂ ◌+◌ length_slot_bits (length-map sps sps_bit)
 
 pub length_report : (g : Config) (arrivals : List Arrival) (sps : List SpsOutcome) (lent room n : ℕ) → judged g arrivals sps lent room ≡ Ok n →

@@ -1,14 +1,15 @@
 -- Which bit of the report is whose. Assumes nothing.
+use Rattle.std.specs.Prelude.{flat_map}
 use Rattle.std.proofs.Common.{◌≡◌, ℕ, zero, suc, ◌+◌, ◌*◌, ◌<◌, ◌≤◌, Bool, true, false, cond, eqb, List, [], ◌∷◌, ◌++◌, map, length, get_or, drop, Some, None, Ok, Err, Option, Result, unwrap_or, sym, refl, ap, ◌∙◌, subst, arith}
 use Rattle.std.proofs.lemmas.Nat.{mul-add-lt}
-use Rattle.std.proofs.lemmas.List.{drop_at, map-append, length-append, length-map, get_or_at, get_or-map, get_or_append_left, get_or-append-add}
+use Rattle.std.proofs.lemmas.List.{drop_at, map-append, length-append, length-map, get_or_at, get_or_append_left, get_or-append-add}
 use Rattle.std.proofs.lemmas.Bool.{eq-eqb, ne_eqb, cond-true, cond-false}
 use Rattle.harq.specs.declared.configs.Config.{Config}
-use Rattle.harq.specs.Words.{all_of, counting_from, onward}
+use Rattle.harq.specs.Words.{onward}
 use Rattle.harq.specs.Configs.{span, bits_per_place}
 use Rattle.harq.specs.Placing.{slot_count, standing_at}
 use Rattle.harq.specs.PlacingLaws.{Rising, Below}
-use Rattle.harq.proofs.Rows.{length_counting_from, get_or_counting_from}
+use Rattle.std.proofs.lemmas.List.FromFn.{get_or-map-range_with_len}
 use Rattle.ue.specs.declared.arrivals.Arrival.{Arrival}
 use Rattle.ue.specs.declared.arrivals.SpsOutcome.{SpsOutcome}
 use Rattle.ue.specs.declared.declines.Decline.{Decline}
@@ -18,7 +19,7 @@ use Rattle.ue.specs.Batches.{counter, counted, end_value, slots_in}
 use Rattle.ue.specs.Checks.{arrivals_judged, judged, length_of}
 use Rattle.ue.specs.Reports.{places_of, held_at, held, sps_bit, report_bits, report_answer}
 use Rattle.ue.specs.Clause.{place_of_arrival, bit_of, ReportFor, ReportStands}
-use Rattle.ue.proofs.Pieces.{get_or_all_of}
+use Rattle.ue.proofs.Pieces.{get_or_pieces}
 use Rattle.ue.proofs.Accepted.{accepted, end_within, placed, rising, below_slots, length_place_bits, length_counted_places, length_held, length_slot_bits, length_bits}
 use Rattle.ue.proofs.Loops.{counted_met}
 
@@ -83,10 +84,7 @@ no_slots g (x ∷ xs) e = absurd (omega arith)
 
 module _ (g : Config) (arrivals : List Arrival) (sps : List SpsOutcome) where
   get_or_held : (p : ℕ) → p < slots_in g arrivals → get_or (held g arrivals) p nack ≡ held_at g arrivals p
-  get_or_held p h =
-      let there : 0 + p ≡ p = omega arith in
-      get_or-map (held_at g arrivals) (counting_from 0 (slots_in g arrivals)) p 0 nack (omega (arith, length_counting_from 0 (slots_in g arrivals)))
-      ∙ ap (held_at g arrivals) (get_or_counting_from 0 (slots_in g arrivals) p 0 h ∙ there)
+  get_or_held p h = get_or-map-range_with_len (held_at g arrivals) 0 (slots_in g arrivals) p p nack h (omega arith)
 
   -- a bit of a place is one of what the place holds
   slot_bit : (p d : ℕ) → p < slots_in g arrivals → d < bits_per_place g →
@@ -94,16 +92,16 @@ module _ (g : Config) (arrivals : List Arrival) (sps : List SpsOutcome) where
   slot_bit p d hp hd =
       let w : ℕ = bits_per_place g in
       let many = length_held g arrivals in
-      get_or_append_left (all_of (place_bits g.mode) (held g arrivals)) (map sps_bit sps) false (w * p + d)
+      get_or_append_left (flat_map (place_bits g.mode) (held g arrivals)) (map sps_bit sps) false (w * p + d)
       (omega (arith, length_slot_bits g arrivals, mul-add-lt p w d (slots_in g arrivals) hp hd))
-      ∙ get_or_all_of (place_bits g.mode) w (length_place_bits g.mode) (held g arrivals) p d nack false (omega arith) hd
+      ∙ get_or_pieces (place_bits g.mode) w (length_place_bits g.mode) (held g arrivals) p d nack false (omega arith) hd
       ∙ ap (λ (s : Slot). get_or (place_bits g.mode s) d false) (get_or_held p hp)
 
   sps_behind : (before after : List SpsOutcome) (s : SpsOutcome) → sps ≡ before ++ (s ∷ after) →
       get_or (report_bits g arrivals sps) (bits_per_place g * slots_in g arrivals + length before) false ≡ sps_bit s
   sps_behind before after s e =
       ap (λ (n : ℕ). get_or (report_bits g arrivals sps) (n + length before) false) (sym (length_slot_bits g arrivals))
-      ∙ get_or-append-add (all_of (place_bits g.mode) (held g arrivals)) (map sps_bit sps) (length before) false
+      ∙ get_or-append-add (flat_map (place_bits g.mode) (held g arrivals)) (map sps_bit sps) (length before) false
       ∙ get_or_behind sps_bit sps before after s false e
 
   module _ (n : ℕ) (e : arrivals_judged g arrivals ≡ Ok n) where

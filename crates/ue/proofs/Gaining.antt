@@ -1,15 +1,9 @@
 -- Runs of bits, one element after the other. Assumes nothing.
-use Rattle.std.proofs.Common.{◌≡◌, ℕ, ◌+◌, ◌<◌, Bool, not, List, ◌++◌, map, length, get_or, take, sym, ap, ◌∙◌, subst, arith}
-use Rattle.std.proofs.lemmas.List.{take_more, length-map, map-append}
-use Rattle.harq.specs.Words.{all_of}
+use Rattle.std.proofs.Common.{◌≡◌, ℕ, ◌+◌, Bool, not, List, ◌++◌, map, length, sym, ap, ◌∙◌, subst, arith}
+use Rattle.std.proofs.lemmas.List.{length-map, map-append}
 use Rattle.sink.specs.Gains.{Gains}
-use Rattle.ue.proofs.Pieces.{all_of_push}
 use Rattle.sink.proofs.Gains.{gains_more}
 use Rattle.sink.proofs.Laws.{flip_back, flip_twice}
-
--- what f gives at one element more
-pub all_of_more : {X Y : Type 0} (f : X → List Y) (xs : List X) (i : ℕ) (d : X) → i < length xs → all_of f (take i xs) ++ f (get_or xs i d) ≡ all_of f (take (i + 1) xs)
-all_of_more f xs i d h = sym (all_of_push f (take i xs) (get_or xs i d)) ∙ ap (all_of f) (sym (take_more xs i d h))
 
 -- one run behind another, as one
 pub gains_both : {S : Type 0} (taken : S → List Bool) (room : S → ℕ) (took : S → List Bool → S → Type 0) (s t u : S) (xs ys zs : List Bool) →

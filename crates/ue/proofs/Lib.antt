@@ -1,11 +1,10 @@
-pub mod Walking
 pub mod Walked
 pub mod Pieces
 pub mod Fields
 pub mod Accepted
+pub mod Few
 pub mod Loops
 pub mod Clause
-pub mod Fills
 pub mod Gaining
 pub mod Placings
 pub mod Reporting

@@ -1,6 +1,6 @@
 -- One pass of placing writes each counted arrival at its place. Assumes nothing.
-use Rattle.std.proofs.Common.{◌≡◌, ℕ, suc, ◌+◌, ◌<◌, ◌≤◌, Bool, true, false, cond, ltb, List, [], ◌∷◌, ◌++◌, map, length, drop, set, replicate, sym, refl, ap, ◌∙◌, subst, arith, length-set}
-use Rattle.std.proofs.lemmas.List.{length-append, length-replicate, length-drop, length-map}
+use Rattle.std.proofs.Common.{◌≡◌, ℕ, suc, ◌+◌, ◌<◌, ◌≤◌, Bool, true, false, cond, ltb, List, [], ◌∷◌, map, length, set, replicate, sym, refl, ap, ◌∙◌, subst, arith, length-set}
+use Rattle.std.proofs.lemmas.List.{append-nil, length-replicate, length-map}
 use Rattle.std.proofs.lemmas.Bool.{cond-true, lt-ltb}
 use Rattle.harq.specs.declared.configs.Config.{Config}
 use Rattle.harq.specs.declared.placing.Placer.{Placer}
@@ -15,7 +15,7 @@ use Rattle.ue.specs.declared.arrivals.Arrival.{Arrival}
 use Rattle.ue.specs.declared.slots.Slot.{Slot}
 use Rattle.ue.specs.Slots.{slot_of, nack}
 use Rattle.ue.specs.Batches.{counter, counting, counted, counters, slots_in}
-use Rattle.ue.specs.Fillings.{filled, placed_by}
+use Rattle.ue.specs.Fillings.{placed_by}
 use Rattle.ue.specs.Reports.{places_of, held}
 
 module _ (g : Config) where
@@ -57,18 +57,16 @@ module _ (g : Config) where
   placed_is [] p slots few below = refl
   placed_is (a ∷ rest) p slots few below = go_placed a rest p slots few (placed_is rest) (counting g a) below
 
-  -- filled, and then placed: what the places hold, and later slots as they were
-  pub placed_held : (xs : List Arrival) (slots : List Slot) (n : ℕ) → length xs ≤ 512 → n ≡ slots_in g xs → n ≤ length slots →
-      Rising 0 (places_of g xs) → Below (slots_in g xs) (places_of g xs) →
-      placed_by g (fresh (span g)) xs (filled n slots) ≡ held g xs ++ drop n slots
-  placed_held xs slots n few is room rising below =
-      let long : length (filled n slots) ≡ length slots =
-      length-append (replicate n nack) (drop n slots) ∙ (let a = length-replicate n nack in let b = length-drop n slots in omega arith)
-      in
-      let within : Below (length (filled n slots)) (places_of g xs) = below_le _ _ (places_of g xs) (omega arith) below in
+  -- over NACKs alone: what the places hold
+  pub placed_held : (xs : List Arrival) (n : ℕ) → length xs ≤ 512 → n ≡ slots_in g xs → Rising 0 (places_of g xs) → Below (slots_in g xs) (places_of g xs) →
+      placed_by g (fresh (span g)) xs (replicate n nack) ≡ held g xs
+  placed_held xs n few is rising below =
+      let within : Below (length (replicate n nack)) (places_of g xs) = below_le _ _ (places_of g xs) (omega (arith, length-replicate n nack)) below in
       let same : length (map slot_of (counted g xs)) ≡ length (places_of g xs) =
       length-map (counted g xs) slot_of ∙ sym (length_places (span g) 0 0 (counters g xs) ∙ length-map (counted g xs) (counter g))
       in
-      placed_is xs (fresh (span g)) (filled n slots) (omega arith) within
-      ∙ ap (λ (k : ℕ). written_at (places_of g xs) (map slot_of (counted g xs)) (replicate k nack ++ drop n slots)) is
-      ∙ written_over (places_of g xs) (map slot_of (counted g xs)) (drop n slots) (slots_in g xs) nack rising below same
+      placed_is xs (fresh (span g)) (replicate n nack) (omega arith) within
+      ∙ ap (λ (k : ℕ). written_at (places_of g xs) (map slot_of (counted g xs)) (replicate k nack)) is
+      ∙ ap (written_at (places_of g xs) (map slot_of (counted g xs))) (sym (append-nil (replicate (slots_in g xs) nack)))
+      ∙ written_over (places_of g xs) (map slot_of (counted g xs)) [] (slots_in g xs) nack rising below same
+      ∙ append-nil (held g xs)

@@ -1,16 +1,18 @@
 -- The walk over the arrivals judges them as the checks say. Assumes nothing.
-use Rattle.std.proofs.Common.{◌≡◌, ℕ, suc, ◌+◌, ◌<◌, ◌≤◌, Bool, true, false, cond, not, ◌&&◌, eqb, List, [], ◌∷◌, ◌++◌, map, length, is_some, IfOk, Some, None, Ok, Err, fold, Option, Result, unwrap_or, sym, refl, ap, ◌∙◌, subst, ⊎_elim, append-nil, arith}
-use Rattle.std.specs.List.{AllByRecursion}
+use Rattle.std.specs.Option.{option_or}
+use Rattle.std.proofs.Common.{◌≡◌, ℕ, suc, ◌+◌, ◌<◌, ◌≤◌, Bool, true, false, cond, not, ◌&&◌, eqb, List, [], ◌∷◌, ◌++◌, map, length, is_some, Some, None, Ok, Err, fold, Option, Result, unwrap_or, sym, refl, ap, ◌∙◌, subst, ⊎_elim, append-nil, arith}
+use Rattle.std.specs.List.{AllByRecursion, filter}
 use Rattle.std.proofs.ByRecursion.{All-push, All-weaker}
 use Rattle.std.proofs.lemmas.List.{append_assoc, length_push, map_push, length-map}
-use Rattle.std.proofs.lemmas.List.Sums.{fold_push}
+use Rattle.std.proofs.lemmas.List.Sums.{fold_push, length-filter, count_by-le-length}
+use Rattle.std.proofs.lemmas.List.Elements.{filter-append}
 use Rattle.std.proofs.lemmas.Bool.{true≢false, cases_eq, eq-eqb, ne_eqb, cond-true, cond-false}
 use Rattle.std.proofs.lemmas.Bool.Decides.{nat_tests}
 use Rattle.harq.specs.declared.configs.Config.{Config}
 use Rattle.harq.specs.declared.placing.Placer.{Placer}
 use Rattle.harq.specs.declared.refusals.Refusal.{Refusal}
 use Rattle.harq.specs.declared.refusals.Refusal.TheVariants as why
-use Rattle.harq.specs.Words.{those, last_or, or_else, onward}
+use Rattle.harq.specs.Words.{last_or, onward}
 use Rattle.harq.specs.Configs.{span, in_range}
 use Rattle.harq.specs.Placing.{count_after, slot_count}
 use Rattle.harq.specs.Placers.{fresh, advanced, slots_at}
@@ -24,31 +26,15 @@ use Rattle.ue.specs.Batches.{dai_of, counter_read, total_read, counter, total, c
 use Rattle.ue.specs.Checks.{last_of, rises_above, differ, total_differs, arrival_refused, first_refused, slots_or}
 use Rattle.ue.specs.Walks.{start, above, known_total, joined, passed, tallied, totalled, step_read, step, blamed, walk_from, slots_after}
 
--- those of a row with one more
-pub those_push_yes : {X : Type 0} (test : X → Bool) (xs : List X) (x : X) → test x ≡ true → those test (xs ++ x ∷ []) ≡ those test xs ++ x ∷ []
-those_push_yes test [] x e = cond-true (test x) _ _ e
-those_push_yes test (y ∷ xs) x e =
-    elim (test y) as (λ b. cond b (y ∷ those test (xs ++ x ∷ [])) (those test (xs ++ x ∷ [])) ≡ cond b (y ∷ those test xs) (those test xs) ++ x ∷ [])
-    [ true ↦ ap (λ l. y ∷ l) (those_push_yes test xs x e) | false ↦ those_push_yes test xs x e ]
-
-pub those_push_no : {X : Type 0} (test : X → Bool) (xs : List X) (x : X) → test x ≡ false → those test (xs ++ x ∷ []) ≡ those test xs
-those_push_no test [] x e = cond-false (test x) _ _ e
-those_push_no test (y ∷ xs) x e =
-    elim (test y) as (λ b. cond b (y ∷ those test (xs ++ x ∷ [])) (those test (xs ++ x ∷ [])) ≡ cond b (y ∷ those test xs) (those test xs))
-    [ true ↦ ap (λ l. y ∷ l) (those_push_no test xs x e) | false ↦ those_push_no test xs x e ]
-
-pub those_few : {X : Type 0} (test : X → Bool) (xs : List X) → length (those test xs) ≤ length xs
-those_few test [] = omega arith
-those_few test (x ∷ xs) =
-    let h = those_few test xs in
-    elim (test x) as (λ b. length (cond b (x ∷ those test xs) (those test xs)) ≤ suc (length xs)) [ true ↦ omega arith | false ↦ omega arith ]
+pub those_few : {X : Type 0} (test : X → Bool) (xs : List X) → length (filter test xs) ≤ length xs
+those_few test xs = omega (arith, length-filter test xs, count_by-le-length test xs)
 
 pub last_of_push : (xs : List Arrival) (a : Arrival) → last_of (xs ++ a ∷ []) ≡ Some a
 last_of_push [] a = refl
 last_of_push (x ∷ xs) a = ap Some (last_or_push x xs a)
 
 -- the pair of an arrival
-abbrev pair : Option Arrival → Option (ℕ × ℕ)
+abbrev pub pair : Option Arrival → Option (ℕ × ℕ)
 pair None = None
 pair (Some a) = Some (a.occasion, a.cell)
 
@@ -56,26 +42,26 @@ pair_above : (o : Option Arrival) (a : Arrival) → above (pair o) a ≡ rises_a
 pair_above None a = refl
 pair_above (Some p) a = refl
 
-or_none : {X : Type 0} (o : Option X) → or_else o None ≡ o
+or_none : {X : Type 0} (o : Option X) → option_or o None ≡ o
 or_none None = refl
 or_none (Some x) = refl
 
-or_assoc : {X : Type 0} (a b c : Option X) → or_else (or_else a b) c ≡ or_else a (or_else b c)
+or_assoc : {X : Type 0} (a b c : Option X) → option_or (option_or a b) c ≡ option_or a (option_or b c)
 or_assoc None b c = refl
 or_assoc (Some x) b c = refl
 
 module _ (g : Config) where
   -- the total of an occasion with one arrival more
-  total_at_push : (m : ℕ) (xs : List Arrival) (a : Arrival) → total_at g m (xs ++ a ∷ []) ≡ or_else (total_at g m xs) (cond (eqb a.occasion m) (total g a) None)
+  total_at_push : (m : ℕ) (xs : List Arrival) (a : Arrival) → total_at g m (xs ++ a ∷ []) ≡ option_or (total_at g m xs) (cond (eqb a.occasion m) (total g a) None)
   total_at_push m [] a = or_none _
-  total_at_push m (x ∷ xs) a = ap (or_else (cond (eqb x.occasion m) (total g x) None)) (total_at_push m xs a) ∙ sym (or_assoc (cond (eqb x.occasion m) (total g x) None) (total_at g m xs) (cond (eqb a.occasion m) (total g a) None))
+  total_at_push m (x ∷ xs) a = ap (option_or (cond (eqb x.occasion m) (total g x) None)) (total_at_push m xs a) ∙ sym (or_assoc (cond (eqb x.occasion m) (total g x) None) (total_at g m xs) (cond (eqb a.occasion m) (total g a) None))
 
   -- an occasion above all others has no total yet
   total_at_none : (m k : ℕ) (xs : List Arrival) → k < m → AllByRecursion (λ b. b.occasion ≤ k) xs → total_at g m xs ≡ None
   total_at_none m k [] lt h = refl
   total_at_none m k (x ∷ xs) lt h =
       let ne : eqb x.occasion m ≡ false = ne_eqb _ _ (λ e. let l : x.occasion ≤ k = h.0 in omega arith) in
-      ap (λ b. or_else (cond b (total g x) None) (total_at g m xs)) ne ∙ total_at_none m k xs lt h.1
+      ap (λ b. option_or (cond b (total g x) None) (total_at g m xs)) ne ∙ total_at_none m k xs lt h.1
 
   -- what is known behind counted arrivals
   abbrev end_of : List Arrival → Option Known
@@ -94,10 +80,10 @@ module _ (g : Config) where
       ap (λ (b : Arrival). Some (record { occasion = b.occasion; total = total_at g b.occasion (y ∷ ys) })) l
 
   end_of_push : (xs : List Arrival) (a : Arrival) →
-      end_of (xs ++ a ∷ []) ≡ Some (record { occasion = a.occasion; total = or_else (total_at g a.occasion xs) (total g a) })
+      end_of (xs ++ a ∷ []) ≡ Some (record { occasion = a.occasion; total = option_or (total_at g a.occasion xs) (total g a) })
   end_of_push xs a =
-      let here : total_at g a.occasion (xs ++ a ∷ []) ≡ or_else (total_at g a.occasion xs) (total g a) =
-      total_at_push a.occasion xs a ∙ ap (or_else (total_at g a.occasion xs)) (cond-true (eqb a.occasion a.occasion) _ _ (eq-eqb _ _ refl))
+      let here : total_at g a.occasion (xs ++ a ∷ []) ≡ option_or (total_at g a.occasion xs) (total g a) =
+      total_at_push a.occasion xs a ∙ ap (option_or (total_at g a.occasion xs)) (cond-true (eqb a.occasion a.occasion) _ _ (eq-eqb _ _ refl))
       in
       end_of_is xs a (xs ++ a ∷ []) refl ∙ ap (λ (t : Option ℕ). Some (record { occasion = a.occasion; total = t })) here
 
@@ -154,7 +140,7 @@ module _ (g : Config) (earlier : List Arrival) (s : Walk) (w : Walked g earlier 
   -- it does not count
   walked_passed : counting g a ≡ false → Walked g (earlier ++ a ∷ []) (passed s a)
   walked_passed e =
-      let same : counted g earlier ≡ counted g (earlier ++ a ∷ []) = sym (those_push_no (counting g) earlier a e) in
+      let same : counted g earlier ≡ counted g (earlier ++ a ∷ []) = sym (filter-append (counting g) earlier (a ∷ []) ∙ ap (λ b. counted g earlier ++ cond b (a ∷ []) []) e ∙ append-nil _) in
       record {
         last_is = last_now;
         known = w.known ∙ ap (end_of g) same;
@@ -164,11 +150,11 @@ module _ (g : Config) (earlier : List Arrival) (s : Walk) (w : Walked g earlier 
       }
 
   -- it counts
-  walked_tallied : counting g a ≡ true → (v : ℕ) (t : Option ℕ) → v ≡ counter g a → t ≡ or_else (total_at g a.occasion (counted g earlier)) (total g a) →
+  walked_tallied : counting g a ≡ true → (v : ℕ) (t : Option ℕ) → v ≡ counter g a → t ≡ option_or (total_at g a.occasion (counted g earlier)) (total g a) →
       Walked g (earlier ++ a ∷ []) (tallied s a v t)
   walked_tallied e v t is total_is =
       let xs : List Arrival = counted g earlier in
-      let more : counted g (earlier ++ a ∷ []) ≡ xs ++ a ∷ [] = those_push_yes (counting g) earlier a e in
+      let more : counted g (earlier ++ a ∷ []) ≡ xs ++ a ∷ [] = filter-append (counting g) earlier (a ∷ []) ∙ ap (λ b. xs ++ cond b (a ∷ []) []) e in
       let here : AllByRecursion (λ b. b.occasion ≤ a.occasion) (xs ++ a ∷ []) =
       All-push (λ b. b.occasion ≤ a.occasion) xs a (All-weaker (λ b. b.occasion ≤ upto g s.known) (λ b. b.occasion ≤ a.occasion) (λ b h. omega (arith, within)) xs w.sorted) (omega arith)
       in
@@ -200,7 +186,7 @@ module _ (g : Config) (earlier : List Arrival) where
   fits_check false true e o r same h = absurd (true≢false same)
 
   -- the totals of one occasion
-  fits_totals : (s : Walk) (a : Arrival) (v : ℕ) (T U : Option ℕ) → ((t : Option ℕ) → t ≡ or_else T U → Walked g earlier (tallied s a v t)) →
+  fits_totals : (s : Walk) (a : Arrival) (v : ℕ) (T U : Option ℕ) → ((t : Option ℕ) → t ≡ option_or T U → Walked g earlier (tallied s a v t)) →
       Fits g earlier (cond (differ T U) (Some why.Totals) None) (totalled s a v (joined T U))
   fits_totals s a v None U h = h U refl
   fits_totals s a v (Some u) None h = h (Some u) refl
@@ -297,8 +283,8 @@ walked_slots g all s w few = slots_known g (counted g all) s w.known w.placer_is
 
 -- the walk, and the slot count behind it, are what the checks say
 pub judged_by : (g : Config) (all : List Arrival) (o : Option (ℕ × Refusal)) (r : Result Walk Decline) → Ends g all o r →
-    IfOk r (λ _. length all ≤ 512) → onward r (λ t. Ok (slots_after t)) ≡ slots_or (slots_in g all) o
-judged_by g all None (Ok t) w few = ap Ok (walked_slots g all t w few)
+    (o ≡ None → length all ≤ 512) → onward r (λ t. Ok (slots_after t)) ≡ slots_or (slots_in g all) o
+judged_by g all None (Ok t) w few = ap Ok (walked_slots g all t w (few refl))
 judged_by g all None (Err d) w few = absurd w
 judged_by g all (Some p) (Ok t) w few = absurd w
 judged_by g all (Some p) (Err d) w few = w (slots_in g all)

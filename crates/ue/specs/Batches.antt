@@ -1,8 +1,9 @@
 -- The arrivals of a batch: which count, their counters and totals, the slot count. Assumes nothing.
+use Rattle.std.specs.List.{filter}
 use Rattle.std.specs.Prelude.{ℕ, Bool, cond, ◌&&◌, ◌||◌, List, [], ◌∷◌, map, Some, None, Option, ◌==◌, nat_le, nat_lt, slice_index}
-use Rattle.std.specs.Option.{unwrap_or}
+use Rattle.std.specs.Option.{unwrap_or, option_or}
 use Rattle.harq.specs.declared.configs.Config.{Config}
-use Rattle.harq.specs.Words.{those, last_or, or_else}
+use Rattle.harq.specs.Words.{last_or}
 use Rattle.harq.specs.Configs.{span, counts, read_dai, blocks_within}
 use Rattle.harq.specs.Placing.{slot_count}
 use Rattle.ue.specs.declared.arrivals.Arrival.{Arrival}
@@ -43,7 +44,7 @@ brought g a = blocks_within g a.blocks && outcomes_within a
 
 -- the arrivals that count
 abbrev pub counted : Config → List Arrival → List Arrival
-counted g arrivals = those (counting g) arrivals
+counted g arrivals = filter (counting g) arrivals
 
 -- their counters
 abbrev pub counters : Config → List Arrival → List ℕ
@@ -52,7 +53,7 @@ counters g arrivals = map (counter g) (counted g arrivals)
 -- the total of an occasion, if one of its arrivals carries one
 abbrev pub total_at : Config → ℕ → List Arrival → Option ℕ
 total_at g occasion [] = None
-total_at g occasion (a ∷ rest) = or_else (cond (a.occasion == occasion) (total g a) None) (total_at g occasion rest)
+total_at g occasion (a ∷ rest) = option_or (cond (a.occasion == occasion) (total g a) None) (total_at g occasion rest)
 
 -- the end value of counted arrivals: the total of the last occasion if one of them there carries one, else the last counter
 abbrev pub end_value : Config → List Arrival → ℕ

@@ -1,7 +1,8 @@
 -- The report in the words of TS 38.213 clause 9.1.3.1: which bit is whose. Assumes nothing.
-use Rattle.std.specs.Prelude.{◌≡◌, ℕ, ◌+◌, ◌*◌, ◌<◌, Bool, false, ◌&&◌, List, ◌∷◌, ◌++◌, length, Ok, ◌==◌, ◌≢◌, slice_index, slice_index_or}
+use Rattle.std.specs.List.{filter, range_with_len}
+use Rattle.std.specs.Prelude.{◌≡◌, ℕ, ◌+◌, ◌*◌, ◌<◌, Bool, false, ◌&&◌, List, ◌∷◌, ◌++◌, length, Ok, ◌==◌, ◌≢◌, slice_index, slice_index_or, flat_map}
 use Rattle.harq.specs.declared.configs.Config.{Config}
-use Rattle.harq.specs.Words.{those, last_or, all_of, counting_from}
+use Rattle.harq.specs.Words.{last_or}
 use Rattle.harq.specs.Configs.{span, bits_per_place}
 use Rattle.harq.specs.PlacingLaws.{Least, StandsFor}
 use Rattle.ue.specs.declared.arrivals.Arrival.{Arrival}
@@ -18,7 +19,7 @@ is_at occasion cell a = a.occasion == occasion && a.cell == cell
 -- The two nested loops: through the monitoring occasions, and in each through the cells, the arrivals that are met.
 abbrev pub met_by_loops : Config → List Arrival → List Arrival
 met_by_loops g arrivals =
-    all_of (λ m. all_of (λ c. those (is_at m c) arrivals) (counting_from 0 g.cells)) (counting_from 0 g.occasions)
+    flat_map (λ m. flat_map (λ c. filter (is_at m c) arrivals) (range_with_len 0 g.cells)) (range_with_len 0 g.occasions)
 
 -- the place of the i-th counted arrival
 abbrev pub place_of_arrival : Config → List Arrival → ℕ → ℕ

@@ -1,16 +1,12 @@
--- The slots as they are filled and written in one pass. Assumes nothing.
-use Rattle.std.specs.Prelude.{ℕ, cond, List, [], ◌∷◌, ◌++◌, length, drop, replicate, nat_lt, slice_set}
+-- The slots as they are written in one pass. Assumes nothing.
+use Rattle.std.specs.Prelude.{ℕ, cond, List, [], ◌∷◌, length, nat_lt, slice_set}
 use Rattle.harq.specs.declared.configs.Config.{Config}
 use Rattle.harq.specs.declared.placing.Placer.{Placer}
 use Rattle.harq.specs.Placers.{advanced, place_at}
 use Rattle.ue.specs.declared.arrivals.Arrival.{Arrival}
 use Rattle.ue.specs.declared.slots.Slot.{Slot}
-use Rattle.ue.specs.Slots.{slot_of, nack}
+use Rattle.ue.specs.Slots.{slot_of}
 use Rattle.ue.specs.Batches.{counter, counting}
-
--- the first slots are NACK, later ones as they were
-abbrev pub filled : ℕ → List Slot → List Slot
-filled count slots = replicate count nack ++ drop count slots
 
 -- the placer behind an arrival, in that many slots
 abbrev pub placer_behind : Config → Placer → Arrival → ℕ → Placer

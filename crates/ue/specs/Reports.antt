@@ -1,9 +1,10 @@
 -- The UE's HARQ-ACK report for what arrived. Assumes nothing.
-use Rattle.std.specs.Prelude.{ℕ, Bool, List, [], ◌++◌, map, length, drop, Ok, Err, Result, ◌==◌}
+use Rattle.std.specs.List.{range_with_len}
+use Rattle.std.specs.Prelude.{ℕ, Bool, List, [], ◌++◌, map, length, drop, Ok, Err, Result, ◌==◌, flat_map}
 use Rattle.std.specs.Option.{unwrap_or}
 use Rattle.harq.specs.declared.configs.Config.{Config}
 use Rattle.harq.specs.declared.refusals.Refusal.{Refusal}
-use Rattle.harq.specs.Words.{all_of, counting_from, onward}
+use Rattle.harq.specs.Words.{onward}
 use Rattle.harq.specs.Configs.{span}
 use Rattle.harq.specs.Placing.{places, standing_at}
 use Rattle.ue.specs.declared.arrivals.Arrival.{Arrival}
@@ -24,7 +25,7 @@ held_at g arrivals p = unwrap_or (standing_at p (places_of g arrivals) (map slot
 
 -- what the places hold, from the first to the last
 abbrev pub held : Config → List Arrival → List Slot
-held g arrivals = map (held_at g arrivals) (counting_from 0 (slots_in g arrivals))
+held g arrivals = map (held_at g arrivals) (range_with_len 0 (slots_in g arrivals))
 
 -- the bit of an SPS reception
 abbrev pub sps_bit : SpsOutcome → Bool
@@ -32,7 +33,7 @@ sps_bit s = s.outcome == 1
 
 -- the report: the bits of each place, then a bit for each SPS reception
 abbrev pub report_bits : Config → List Arrival → List SpsOutcome → List Bool
-report_bits g arrivals sps = all_of (place_bits g.mode) (held g arrivals) ++ map sps_bit sps
+report_bits g arrivals sps = flat_map (place_bits g.mode) (held g arrivals) ++ map sps_bit sps
 
 -- the answer: the length of the report, or why it is declined, with that many slots lent and that room
 abbrev pub report_answer : Config → List Arrival → List SpsOutcome → ℕ → ℕ → Result ℕ Decline

@@ -1,5 +1,7 @@
 -- How the arrivals are judged in one pass. Assumes nothing.
 use Rattle.std.specs.Prelude.{ℕ, ◌+◌, ◌*◌, ◌<◌, ◌≤◌, Bool, true, cond, ◌&&◌, ◌||◌, List, [], ◌∷◌, Some, None, Ok, Err, Option, Result, ◌==◌, nat_lt}
+use Rattle.std.specs.Coded.{×_prop, Unit-prop, le_prop}
+use Rattle.std.proofs.Common.{ap}
 use Rattle.harq.specs.declared.configs.Config.{Config}
 use Rattle.harq.specs.declared.refusals.Refusal.{Refusal}
 use Rattle.harq.specs.declared.refusals.Refusal.TheVariants as why
@@ -97,3 +99,23 @@ pub record Sound (g : Config) (s : Walk) : Type 0 where
   pub span : s.placer.span ≤ 4
   pub last : reach s.last ≤ 512
   pub cell : CellFits s.last
+
+cell_fits_prop : (last : Option (ℕ × ℕ)) → IsProp (CellFits last)
+cell_fits_prop None = Unit-prop
+cell_fits_prop (Some p) = le_prop
+
+abbrev Facts : Config → Walk → Type 0
+Facts g s = (g.cells ≤ 16) × ((g.occasions ≤ 32) × ((s.placer.turns ≤ reach s.last) × ((s.placer.span ≤ 4) × ((reach s.last ≤ 512) × CellFits s.last))))
+
+abbrev facts_of : (g : Config) (s : Walk) → Sound g s → Facts g s
+facts_of g s x = (x.cells, (x.occasions, (x.turns, (x.span, (x.last, x.cell)))))
+
+abbrev of_facts : (g : Config) (s : Walk) → Facts g s → Sound g s
+of_facts g s f = record { cells = f.0; occasions = f.1.0; turns = f.1.1.0; span = f.1.1.1.0; last = f.1.1.1.1.0; cell = f.1.1.1.1.1 }
+
+facts_prop : (g : Config) (s : Walk) → IsProp (Facts g s)
+facts_prop g s = ×_prop le_prop (×_prop le_prop (×_prop le_prop (×_prop le_prop (×_prop le_prop (cell_fits_prop s.last)))))
+
+-- one proof of it is as good as another
+pub sound_prop : (g : Config) (s : Walk) → IsProp (Sound g s)
+sound_prop g s = λ x y. ap (of_facts g s) (facts_prop g s (facts_of g s x) (facts_of g s y))

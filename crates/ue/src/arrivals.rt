@@ -5,6 +5,7 @@ use harq::SpsEntry;
 use harq::sps::SpsListed;
 
 // A DCI assignment that arrived, with the outcomes of its blocks (1 ACK, 0 NACK); only the first `blocks` of them count.
+// All are plain numbers, since a card gets any number: the checks refuse a format, a block count or an outcome that is none.
 #[derive(Clone, Copy, Debug, Default, PartialEq, Eq)]
 pub struct Arrival {
     pub cell: u32,

@@ -1,32 +1,21 @@
-// The slots of a report: filled with NACK, then each outcome at its place.
-ghost use Rattle.std.specs.Prelude.{◌≡◌, ◌≤◌, length};
+// The slots of a report: each outcome at its place.
+ghost use Rattle.std.specs.Prelude.{◌≡◌, length};
 ghost use Rattle.harq.specs.Configs.{span};
 ghost use Rattle.harq.specs.Placers.{fresh};
 ghost use Rattle.ue.specs.Batches.{counter};
-ghost use Rattle.ue.specs.Fillings.{filled, placer_behind, slots_behind, placed_by};
+ghost use Rattle.ue.specs.Fillings.{placer_behind, slots_behind, placed_by};
 
 use crate::arrivals::Arrival;
 use crate::slots::Slot;
 use harq::{Config, Placer};
 
-// Fills the first slots with NACK.
-pub(crate) fn fill_nack(slots: &mut [Slot], count: usize)
-    requires { count ≤ length slots.old }
-    ensures { slots.new ≡ filled count slots.old }
-{
-    for i in 0..count {
-        slots[i] = Slot::One(false);
-    }
-}
-
 // The counter of an arrival, whose field has been judged.
 fn counter_of(config: &Config, a: &Arrival) -> u32
     ensures { result ≡ counter config.now a.now }
 {
-    match config.read_dai(a.format, a.field) {
-        Some((counter, _)) => counter,
-        None => 0,
-    }
+    config
+        .read_dai(a.format, a.field)
+        .map_or(0, |(counter, _)| counter)
 }
 
 // Writes the outcomes of an arrival at its place, if it counts.
@@ -35,8 +24,8 @@ fn place_one(config: &Config, a: &Arrival, placer: &mut Placer, slots: &mut [Slo
     ensures slots { slots.new ≡ slots_behind config.now placer.old a.now slots.old }
 {
     if config.counts(a.cell, a.occasion) {
-        // The place is among the slots: they have been counted.
-        let _ = placer.place(slots, counter_of(config, a), Slot::of(a));
+        // The place is among the slots, since they have been counted, so that no refusal is lost.
+        let _ = placer.place(slots, counter_of(config, a), Slot::from(a));
     }
 }
 

@@ -14,6 +14,6 @@ mod walks;
 
 pub use arrivals::{Arrival, SpsOutcome};
 pub use declines::{Decline, Part};
-pub use reports::{report, report_located};
+pub use reports::{LONGEST_REPORT, report, report_located};
 pub use slots::Slot;
 pub use transmitter::{report_inverted, transmit};

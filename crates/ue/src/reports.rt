@@ -1,5 +1,5 @@
 // The report of a batch, into any sink.
-ghost use Rattle.std.specs.Prelude.{◌≡◌, ◌≤◌, false, ◌++◌, length, drop, is_ok, Ok, OnOk};
+ghost use Rattle.std.specs.Prelude.{◌≡◌, ℕ, false, length, drop, is_ok, Ok, OnOk};
 ghost use Rattle.ue.specs.Checks.{judged};
 ghost use Rattle.ue.specs.Clause.{ReportFor};
 ghost use Rattle.sink.specs.Gains.{Gains};
@@ -9,32 +9,34 @@ use crate::arrivals::{Arrival, SpsOutcome};
 use crate::bits::{put_places, put_sps};
 use crate::checks::judge;
 use crate::declines::Decline;
-use crate::filling::{fill_nack, place_all};
+use crate::filling::place_all;
 use crate::slots::Slot;
 use harq::{Config, Refusal};
 use sink::BitSink;
 
-// The report of a batch that has been judged, with that many slots.
+// The longest report that a PUCCH carries, in bits.
+pub const LONGEST_REPORT: usize = 1706;
+
+// The report of a batch that has been judged, in as many slots as it takes.
 fn write_report<S: BitSink>(
     config: &Config,
     arrivals: &[Arrival],
     sps: &[SpsOutcome],
     slots: &mut [Slot],
-    count: usize,
     sink: &mut S,
 )
-    requires judged { judged config.now arrivals.now sps.now (length slots.old) (S.room sink.old) ≡ Ok count }
-    requires few { length arrivals.now ≤ 512 }
-    ensures slots { slots.new ≡ held config.now arrivals.now ++ drop count slots.old }
+    requires { (lent : ℕ) × (judged config.now arrivals.now sps.now lent (S.room sink.old) ≡ Ok (length slots.old)) }
+    ensures slots { slots.new ≡ held config.now arrivals.now }
     ensures gains { Gains S.taken S.room S.took sink.old (report_bits config.now arrivals.now sps.now) sink.new }
 {
-    fill_nack(slots, count);
+    slots.fill(Slot::One(false));
     place_all(config, arrivals, slots);
-    put_places(config, &slots[0..count], sink);
+    put_places(config, slots, sink);
     put_sps(sps, sink);
 }
 
 // The length of the report, which the sink gains, or why it is declined and by which part; a declined report changes nothing.
+// Configuration, arrivals and SPS list are three parameters here and above: callers hold each apart, and a clause that read them out of a struct would only be longer.
 pub fn report_located<S: BitSink>(
     config: &Config,
     arrivals: &[Arrival],
@@ -49,7 +51,7 @@ pub fn report_located<S: BitSink>(
     ensures kept { is_ok result ≡ false → sink.new ≡ sink.old }
 {
     let count = judge(config, arrivals, sps, slots.len(), S::room_left(sink))?;
-    write_report(config, arrivals, sps, slots, count, sink);
+    write_report(config, arrivals, sps, &mut slots[0..count], sink);
     Ok(config.bits_per_place() * count + sps.len())
 }
 
@@ -68,8 +70,5 @@ pub fn report<S: BitSink>(
     ensures kept { is_ok result ≡ false → sink.new ≡ sink.old }
     ensures clause { OnOk result (ReportFor config.now arrivals.now sps.now (drop (length (S.taken sink.old)) (S.taken sink.new))) }
 {
-    match report_located(config, arrivals, sps, slots, sink) {
-        Ok(length) => Ok(length),
-        Err(decline) => Err(decline.refusal),
-    }
+    Ok(report_located(config, arrivals, sps, slots, sink)?)
 }

@@ -2,8 +2,6 @@
 ghost use Rattle.ue.specs.Clause.{ReportStands};
 
 // A report that is not declined is that of the clause, bit for bit.
-pub fn report_stands() -> u8
+pub fn report_stands()
     ensures { ReportStands }
-{
-    0
-}
+{}
