@@ -1,12 +1,12 @@
 -- What arrives of what is sent: each arrival passes the UE's checks, and the counters are those of the numbers that arrived. Assumes nothing.
+use Rattle.std.specs.Option.{option_or}
 use Rattle.std.proofs.Common.{◌≡◌, ℕ, ◌+◌, ◌<◌, ◌≤◌, Bool, true, false, cond, ◌&&◌, ◌||◌, eqb, ltb, leb, List, [], ◌∷◌, ◌++◌, map, length, is_some, Some, None, Option, sym, refl, ap, ◌∙◌, subst, ap₂, inl, inr, ⊎_elim, arith}
-use Rattle.std.specs.List.{AllByRecursion, list_any}
+use Rattle.std.specs.List.{AllByRecursion, list_any, filter}
 use Rattle.std.proofs.ByRecursion.{All-push, All-weaker}
 use Rattle.std.proofs.lemmas.Bool.{cases_lt, lt-ltb, le-leb, eq-eqb, eqb-true, and_from, and_right, or_left, or_right, not_from_true, cond-false}
 use Rattle.dai.specs.Values.{value}
 use Rattle.harq.specs.declared.configs.Config.{Config}
 use Rattle.harq.specs.declared.refusals.Refusal.{Refusal}
-use Rattle.harq.specs.Words.{those, or_else}
 use Rattle.harq.specs.Configs.{span, in_range, carries_total}
 use Rattle.harq.specs.Losses.{numbers}
 use Rattle.ue.specs.declared.arrivals.Arrival.{Arrival}
@@ -29,10 +29,10 @@ above_trans (Some p) m c occasion cell (inr h) (inl k) = inl (omega (arith, h.0)
 above_trans (Some p) m c occasion cell (inr h) (inr k) = inr (h.0 ∙ k.0, omega (arith, h.1, k.1))
 
 pub in_order_those : (g : Config) (test : Assignment → Bool) (last before : Option (ℕ × ℕ)) (xs : List Assignment) →
-    ((m c : ℕ) → Above last m c → Above before m c) → InOrder g last xs → InOrder g before (those test xs)
+    ((m c : ℕ) → Above last m c → Above before m c) → InOrder g last xs → InOrder g before (filter test xs)
 in_order_those g test last before [] weaker h = tt
 in_order_those g test last before (a ∷ xs) weaker h =
-    elim (test a) as (λ b. InOrder g before (cond b (a ∷ those test xs) (those test xs))) [
+    elim (test a) as (λ b. InOrder g before (cond b (a ∷ filter test xs) (filter test xs))) [
       | true ↦ (h.0, weaker _ _ h.1, in_order_those g test (Some (a.occasion, a.cell)) (Some (a.occasion, a.cell)) xs (λ m c k. k) h.2)
       | false ↦ in_order_those g test (Some (a.occasion, a.cell)) before xs (λ m c k. weaker m c (above_trans last a.occasion a.cell m c h.1 k)) h.2
     ]
@@ -54,7 +54,7 @@ Ascends p (a ∷ rest) = (rises_above p a ≡ true) × Ascends (Some a) rest
 abbrev pub tells : Config → ℕ → Arrival → Bool
 tells g m a = eqb a.occasion m && carries_total g a.format
 
-or_same : {X : Type 0} (b c : Bool) (v : X) → or_else (cond b (Some v) None) (cond c (Some v) None) ≡ cond (b || c) (Some v) None
+or_same : {X : Type 0} (b c : Bool) (v : X) → option_or (cond b (Some v) None) (cond c (Some v) None) ≡ cond (b || c) (Some v) None
 or_same true c v = refl
 or_same false c v = refl
 
@@ -66,11 +66,11 @@ same_total false c v = refl
 module _ (g : Config) (T : ℕ → ℕ) where
   -- the total of an occasion, where one tells it
   total_step : (m : ℕ) (a : Arrival) (c : Bool) (rest : Option ℕ) → Good g T a → rest ≡ cond c (Some (value (span g) (T m))) None → (b : Bool) → eqb a.occasion m ≡ b →
-      or_else (cond b (total g a) None) rest ≡ cond ((b && carries_total g a.format) || c) (Some (value (span g) (T m))) None
+      option_or (cond b (total g a) None) rest ≡ cond ((b && carries_total g a.format) || c) (Some (value (span g) (T m))) None
   total_step m a c rest good is true e =
       let here : total g a ≡ cond (carries_total g a.format) (Some (value (span g) (T m))) None =
       good.total_is ∙ ap (λ k. cond (carries_total g a.format) (Some (value (span g) (T k))) None) (eqb-true a.occasion m e) in
-      ap₂ or_else here is ∙ or_same (carries_total g a.format) c (value (span g) (T m))
+      ap₂ option_or here is ∙ or_same (carries_total g a.format) c (value (span g) (T m))
   total_step m a c rest good is false e = is
 
   pub total_at_is : (m : ℕ) (xs : List Arrival) → AllByRecursion (Good g T) xs → total_at g m xs ≡ cond (list_any (tells g m) xs) (Some (value (span g) (T m))) None
@@ -112,17 +112,17 @@ module _ (fates : List Fate) where
   abbrev pub arrival : Assignment → Arrival
   arrival a = arrival_of a (fate_of fates a.number)
 
-  pub arrivals_are : (xs : List Assignment) → arrivals_of fates xs ≡ map arrival (those here xs)
+  pub arrivals_are : (xs : List Assignment) → arrivals_of fates xs ≡ map arrival (filter here xs)
   arrivals_are [] = refl
   arrivals_are (a ∷ xs) =
-      elim (here a) as (λ b. cond b (arrival a ∷ arrivals_of fates xs) (arrivals_of fates xs) ≡ map arrival (cond b (a ∷ those here xs) (those here xs)))
+      elim (here a) as (λ b. cond b (arrival a ∷ arrivals_of fates xs) (arrivals_of fates xs) ≡ map arrival (cond b (a ∷ filter here xs) (filter here xs)))
       [ true ↦ ap (λ (l : List Arrival). arrival a ∷ l) (arrivals_are xs) | false ↦ arrivals_are xs ]
 
-  pub numbers_are : (n low : ℕ) (xs : List Assignment) → Row n low xs → numbers n (map here xs) ≡ map number_of (those here xs)
+  pub numbers_are : (n low : ℕ) (xs : List Assignment) → Row n low xs → numbers n (map here xs) ≡ map number_of (filter here xs)
   numbers_are n low [] h = refl
   numbers_are n low (a ∷ xs) h =
       let on = numbers_are (n + 1) a.occasion xs h.2 in
-      elim (here a) as (λ b. numbers n (b ∷ map here xs) ≡ map number_of (cond b (a ∷ those here xs) (those here xs)))
+      elim (here a) as (λ b. numbers n (b ∷ map here xs) ≡ map number_of (cond b (a ∷ filter here xs) (filter here xs)))
       [ true ↦ ap₂ (λ (k : ℕ) (l : List ℕ). k ∷ l) (sym h.0) on | false ↦ on ]
 
   module _ (g : Config) where

@@ -1,12 +1,11 @@
 -- Which bit of the report is whose, by the numbers sent. Assumes nothing.
-use Rattle.std.proofs.Common.{◌≡◌, ℕ, zero, suc, ◌+◌, ◌-◌, ◌*◌, ◌<◌, ◌≤◌, Bool, true, false, cond, eqb, List, [], ◌∷◌, ◌++◌, map, length, get_or, take, sym, refl, ap, ◌∙◌, arith}
+use Rattle.std.proofs.Common.{◌≡◌, ℕ, zero, suc, ◌+◌, ◌-◌, ◌*◌, ◌<◌, ◌≤◌, Bool, true, false, cond, eqb, List, [], ◌∷◌, ◌++◌, map, length, get_or, take, sym, refl, ap, ◌∙◌, arith, flat_map}
 use Rattle.std.proofs.lemmas.Simd.{map-map}
 use Rattle.std.proofs.lemmas.List.{length-map, length-take, get_or-map, get_or-take, get_or-append-add}
 use Rattle.std.proofs.lemmas.Bool.{both_ways}
 use Rattle.harq.specs.declared.configs.Config.{Config}
 use Rattle.harq.specs.Configs.{bits_per_place}
 use Rattle.harq.specs.Losses.{numbers}
-use Rattle.harq.specs.Words.{all_of}
 use Rattle.sink.specs.Bits.{bits_of}
 use Rattle.sink.proofs.Packing.{length_bits as bytes-long}
 use Rattle.ue.specs.declared.arrivals.Arrival.{Arrival}
@@ -120,7 +119,7 @@ pub sps_bit_at : (g : Config) (arrivals : List Arrival) (sps : List SpsOutcome) 
 sps_bit_at g arrivals sps i h =
     let outcomes = map (λ (s : SpsOutcome). s.outcome) sps in
     ap (λ n. get_or (report_bits g arrivals sps) (n + i) false) (sym (length_slot_bits g arrivals))
-    ∙ get_or-append-add (all_of (place_bits g.mode) (held g arrivals)) (map sps_bit sps) i false
+    ∙ get_or-append-add (flat_map (place_bits g.mode) (held g arrivals)) (map sps_bit sps) i false
     ∙ ap (λ (l : List Bool). get_or l i false) (sym (map-map (λ n. eqb n 1) (λ (s : SpsOutcome). s.outcome) sps))
     ∙ get_or-map (λ n. eqb n 1) outcomes i 0 false (omega (arith, length-map sps (λ (s : SpsOutcome). s.outcome)))
 

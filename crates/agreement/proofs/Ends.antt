@@ -1,12 +1,12 @@
 -- The end value of what arrived: the number that it stands for, and when that is the last number sent. Assumes nothing.
 use Rattle.std.proofs.Common.{◌≡◌, ℕ, ◌-◌, ◌<◌, ◌≤◌, Bool, true, false, cond, ◌⊎◌, List, [], ◌∷◌, map, length, get_or, Some, None, Option, unwrap_or, sym, refl, ap, ◌∙◌, subst, ap₂, inl, inr, arith}
-use Rattle.std.specs.List.{AllByRecursion, list_any}
+use Rattle.std.specs.List.{AllByRecursion, list_any, filter}
 use Rattle.std.proofs.ByRecursion.{All-get_or, All-weaker}
 use Rattle.std.proofs.lemmas.List.{length-map}
 use Rattle.std.proofs.lemmas.Bool.{cond_both, and_parts, and_from, eqb-true, eq-eqb, leb-true, le-leb, both_ways}
 use Rattle.dai.specs.Values.{value}
 use Rattle.harq.specs.declared.configs.Config.{Config}
-use Rattle.harq.specs.Words.{those, last_or}
+use Rattle.harq.specs.Words.{last_or}
 use Rattle.harq.specs.Configs.{span, carries_total}
 use Rattle.harq.specs.Placing.{slot_count}
 use Rattle.harq.specs.Losses.{numbers, last_arrived}
@@ -53,8 +53,8 @@ module _ (g : Config) (fates : List Fate) (xs : List Assignment) (d : Assignment
   Got a = Known g xs d a × (here fates a ≡ true)
 
   -- each of those that arrived is one
-  pub got : AllByRecursion Got (those (here fates) xs)
-  got = all_both (Known g xs d) (λ a. here fates a ≡ true) Got (λ a k h. (k, h)) (those (here fates) xs)
+  pub got : AllByRecursion Got (filter (here fates) xs)
+  got = all_both (Known g xs d) (λ a. here fates a ≡ true) Got (λ a k h. (k, h)) (filter (here fates) xs)
       (all_those (here fates) (Known g xs d) xs (known g xs d s)) (those_pass (here fates) xs)
 
   -- some arrival tells the total of an occasion
@@ -113,8 +113,8 @@ module _ (g : Config) (fates : List Fate) (xs : List Assignment) (d : Assignment
         none = λ z. absurd (omega (arith, k.0.first));
       }
 
-  pub counts_to : CountsTo (map (here fates) xs) (upto (those (here fates) xs))
-  counts_to = counts_by (those (here fates) xs) got (numbers_are fates 0 0 xs s.row)
+  pub counts_to : CountsTo (map (here fates) xs) (upto (filter (here fates) xs))
+  counts_to = counts_by (filter (here fates) xs) got (numbers_are fates 0 0 xs s.row)
 
   -- number k was sent and arrived
   abbrev Came : ℕ → Type 0
@@ -148,13 +148,13 @@ module _ (g : Config) (fates : List Fate) (xs : List Assignment) (d : Assignment
     ends_only (a ∷ ys) all some q = only_by a ys all some (told (last_or a ys).occasion (a ∷ ys)) refl q
 
     -- what holds of each that arrived holds of number k, if this arrived
-    at_number : (ys : List Assignment) → those (here fates) xs ≡ ys → (P : Assignment → Type 0) → AllByRecursion P ys → (k : ℕ) → Came k → P (get_or xs (k - 1) d)
+    at_number : (ys : List Assignment) → filter (here fates) xs ≡ ys → (P : Assignment → Type 0) → AllByRecursion P ys → (k : ℕ) → Came k → P (get_or xs (k - 1) d)
     at_number ys e P all k came =
         let number : (get_or xs (k - 1) d).number ≡ k = row_at 0 0 xs s.row (k - 1) d (omega arith) ∙ omega arith in
         at_those (here fates) P xs (k - 1) d (subst (AllByRecursion P) (sym e) all) (omega arith) (subst (λ n. (fate_of fates n).arrived ≡ true) (sym number) came.1)
 
     -- the last number arrived
-    by_last : (a : Assignment) (ys : List Assignment) → those (here fates) xs ≡ a ∷ ys → Came (length xs) → upto (a ∷ ys) ≡ length xs
+    by_last : (a : Assignment) (ys : List Assignment) → filter (here fates) xs ≡ a ∷ ys → Came (length xs) → upto (a ∷ ys) ≡ length xs
     by_last a ys e came =
         let b = last_all Got a ys (subst (AllByRecursion Got) e got) in
         let climbs = subst (Climbs number_of 0) e (climbs_those number_of (here fates) 0 xs (row_numbers 0 0 xs s.row)) in
@@ -162,7 +162,7 @@ module _ (g : Config) (fates : List Fate) (xs : List Assignment) (d : Assignment
         omega (arith, le, row_at 0 0 xs s.row (length xs - 1) d (omega arith), from_last a ys b, within_sent a ys b)
 
     -- a total arrived in the last occasion used
-    by_total : (a : Assignment) (ys : List Assignment) → those (here fates) xs ≡ a ∷ ys → (t : TotalCame) → (c : Bool) → told (last_or a ys).occasion (a ∷ ys) ≡ c →
+    by_total : (a : Assignment) (ys : List Assignment) → filter (here fates) xs ≡ a ∷ ys → (t : TotalCame) → (c : Bool) → told (last_or a ys).occasion (a ∷ ys) ≡ c →
         cond c (till xs (last_or a ys).occasion) (last_or a ys).number ≡ length xs
     by_total a ys e t c is =
         let n = (last_or a ys).occasion in
@@ -183,7 +183,7 @@ module _ (g : Config) (fates : List Fate) (xs : List Assignment) (d : Assignment
         ] is
 
     -- it is the last number sent if the last arrived, or a total in the last occasion used
-    pub ends_enough : (ys : List Assignment) → those (here fates) xs ≡ ys → Came (length xs) ⊎ TotalCame → upto ys ≡ length xs
+    pub ends_enough : (ys : List Assignment) → filter (here fates) xs ≡ ys → Came (length xs) ⊎ TotalCame → upto ys ≡ length xs
     ends_enough [] e (inl came) = absurd (at_number [] e (λ _. ⊥) tt (length xs) came)
     ends_enough [] e (inr t) = absurd (at_number [] e (λ _. ⊥) tt t.0 t.1)
     ends_enough (a ∷ ys) e (inl came) = by_last a ys e came

@@ -1,8 +1,8 @@
 -- Elements that pass a test, the last element, and rows that climb. Assumes nothing.
 use Rattle.std.proofs.Common.{◌≡◌, ℕ, zero, suc, ◌<◌, ◌≤◌, Bool, true, false, cond, List, [], ◌∷◌, map, length, get_or, sym, refl, ap, ◌∙◌, subst, ⊎_elim, arith}
-use Rattle.std.specs.List.{AllByRecursion, list_any}
+use Rattle.std.specs.List.{AllByRecursion, list_any, filter}
 use Rattle.std.proofs.lemmas.Bool.{true≢false, cond-true, or_cases, or_parts}
-use Rattle.harq.specs.Words.{those, last_or}
+use Rattle.harq.specs.Words.{last_or}
 use Rattle.ue.proofs.Walked.{those_few}
 
 module _ {X : Type 0} where
@@ -23,17 +23,17 @@ module _ {X : Type 0} where
 
 module _ {X : Type 0} (test : X → Bool) where
   -- all pass: those are all
-  pub those_all : (xs : List X) → AllByRecursion (λ x. test x ≡ true) xs → those test xs ≡ xs
+  pub those_all : (xs : List X) → AllByRecursion (λ x. test x ≡ true) xs → filter test xs ≡ xs
   those_all [] h = refl
   those_all (x ∷ xs) h = cond-true (test x) _ _ h.0 ∙ ap (λ l. x ∷ l) (those_all xs h.1)
 
   -- as many pass as there are: all pass
-  full_by : (x : X) (xs : List X) (b : Bool) → test x ≡ b → (length xs ≤ length (those test xs) → AllByRecursion (λ y. test y ≡ true) xs) →
-      suc (length xs) ≤ length (cond b (x ∷ those test xs) (those test xs)) → AllByRecursion (λ y. test y ≡ true) (x ∷ xs)
+  full_by : (x : X) (xs : List X) (b : Bool) → test x ≡ b → (length xs ≤ length (filter test xs) → AllByRecursion (λ y. test y ≡ true) xs) →
+      suc (length xs) ≤ length (cond b (x ∷ filter test xs) (filter test xs)) → AllByRecursion (λ y. test y ≡ true) (x ∷ xs)
   full_by x xs true e on le = (e, on (omega arith))
   full_by x xs false e on le = absurd (omega (arith, those_few test xs))
 
-  pub those_full : (xs : List X) → length xs ≤ length (those test xs) → AllByRecursion (λ x. test x ≡ true) xs
+  pub those_full : (xs : List X) → length xs ≤ length (filter test xs) → AllByRecursion (λ x. test x ≡ true) xs
   those_full [] le = tt
   those_full (x ∷ xs) le = full_by x xs (test x) refl (those_full xs) le
 
@@ -42,10 +42,10 @@ module _ {X : Type 0} (test : X → Bool) where
   all_after_first P true x xs h = h.1
   all_after_first P false x xs h = h
 
-  pub at_those : (P : X → Type 0) (xs : List X) (i : ℕ) (d : X) → AllByRecursion P (those test xs) → i < length xs → test (get_or xs i d) ≡ true → P (get_or xs i d)
+  pub at_those : (P : X → Type 0) (xs : List X) (i : ℕ) (d : X) → AllByRecursion P (filter test xs) → i < length xs → test (get_or xs i d) ≡ true → P (get_or xs i d)
   at_those P [] i d all h e = absurd (omega arith)
-  at_those P (x ∷ xs) zero d all h e = let p : AllByRecursion P (x ∷ those test xs) = subst (AllByRecursion P) (cond-true (test x) _ _ e) all in p.0
-  at_those P (x ∷ xs) (suc i) d all h e = at_those P xs i d (all_after_first P (test x) x (those test xs) all) (omega arith) e
+  at_those P (x ∷ xs) zero d all h e = let p : AllByRecursion P (x ∷ filter test xs) = subst (AllByRecursion P) (cond-true (test x) _ _ e) all in p.0
+  at_those P (x ∷ xs) (suc i) d all h e = at_those P xs i d (all_after_first P (test x) x (filter test xs) all) (omega arith) e
 
   -- one that passes, with what holds of each
   pub any_true : {Y : Type 0} (f : Y → X) (P : Y → Type 0) (ys : List Y) → AllByRecursion P ys → list_any test (map f ys) ≡ true → (y : Y) × P y × (test (f y) ≡ true)
@@ -67,12 +67,12 @@ module _ {X : Type 0} (f : X → ℕ) where
   climbs_lower low high [] le h = tt
   climbs_lower low high (x ∷ xs) le h = (omega (arith, h.0), h.1)
 
-  pub climbs_those : (test : X → Bool) (low : ℕ) (xs : List X) → Climbs low xs → Climbs low (those test xs)
+  pub climbs_those : (test : X → Bool) (low : ℕ) (xs : List X) → Climbs low xs → Climbs low (filter test xs)
   climbs_those test low [] h = tt
   climbs_those test low (x ∷ xs) h =
-      elim (test x) as (λ b. Climbs low (cond b (x ∷ those test xs) (those test xs))) [
+      elim (test x) as (λ b. Climbs low (cond b (x ∷ filter test xs) (filter test xs))) [
         | true ↦ (h.0, climbs_those test (f x) xs h.1)
-        | false ↦ climbs_lower low (f x) (those test xs) h.0 (climbs_those test (f x) xs h.1)
+        | false ↦ climbs_lower low (f x) (filter test xs) h.0 (climbs_those test (f x) xs h.1)
       ]
 
   -- none is above the last

@@ -1,10 +1,10 @@
 -- The assignments sent as a row: numbers, occasions, and the total that each is sent with. Assumes nothing.
 use Rattle.std.proofs.Common.{◌≡◌, ℕ, zero, suc, ◌+◌, ◌-◌, ◌<◌, ◌≤◌, Bool, false, cond, not, eqb, leb, List, [], ◌∷◌, ◌++◌, map, length, get_or, Some, None, Option, sym, refl, ap, ◌∙◌, subst, arith}
-use Rattle.std.specs.List.{AllByRecursion}
+use Rattle.std.specs.List.{AllByRecursion, filter}
 use Rattle.std.proofs.ByRecursion.{All-append, All-get_or, All-from_get_or}
 use Rattle.std.proofs.lemmas.Bool.{cond-true, cond-false, le-leb, lt-leb, ne_eqb}
 use Rattle.harq.specs.declared.configs.Config.{Config}
-use Rattle.harq.specs.Words.{those, last_or}
+use Rattle.harq.specs.Words.{last_or}
 use Rattle.gnb.specs.declared.batches.BatchState.{BatchState}
 use Rattle.gnb.specs.declared.grants.Grant.{Grant}
 use Rattle.gnb.specs.Limits.{next_occasion}
@@ -72,16 +72,16 @@ row_occasions n low (a ∷ xs) h = (h.1, row_occasions (n + 1) a.occasion xs h.2
 
 -- how many are sent up to an occasion, it included
 abbrev pub till : List Assignment → ℕ → ℕ
-till xs m = length (those (early m) xs)
+till xs m = length (filter (early m) xs)
 
 -- one more of them, none of them, those of a call
 till_one : (a : Assignment) (xs : List Assignment) (m : ℕ) → a.occasion ≤ m → till (a ∷ xs) m ≡ suc (till xs m)
-till_one a xs m le = ap length (cond-true (leb a.occasion m) (a ∷ those (early m) xs) _ (le-leb a.occasion m le))
+till_one a xs m le = ap length (cond-true (leb a.occasion m) (a ∷ filter (early m) xs) _ (le-leb a.occasion m le))
 
 till_none : (n low m : ℕ) (xs : List Assignment) → m < low → Row n low xs → till xs m ≡ 0
 till_none n low m [] lt h = refl
 till_none n low m (a ∷ xs) lt h =
-    ap length (cond-false (leb a.occasion m) (a ∷ those (early m) xs) _ (lt-leb a.occasion m (omega (arith, h.1))))
+    ap length (cond-false (leb a.occasion m) (a ∷ filter (early m) xs) _ (lt-leb a.occasion m (omega (arith, h.1))))
     ∙ till_none (n + 1) a.occasion m xs (omega (arith, h.1)) h.2
 
 till_call : (g : Config) (m total n : ℕ) (gs : List Grant) (rest : List Assignment) (k : ℕ) → m ≤ k →
@@ -137,13 +137,13 @@ last_call g m total n [] rest = refl
 last_call g m total n (a ∷ gs) rest = last_call g m total (n + 1) gs rest
 
 last_used : (g : Config) (n : ℕ) (cs : List Call) (d : Option ℕ) →
-    last_or d (map (λ (c : Call). Some c.occasion) (those with_grant cs)) ≡ last_or d (occasions (numbered_from g n cs))
+    last_or d (map (λ (c : Call). Some c.occasion) (filter with_grant cs)) ≡ last_or d (occasions (numbered_from g n cs))
 last_used g n [] d = refl
 last_used g n (c ∷ cs) d = go c.grants (n + length c.grants) (last_used g (n + length c.grants) cs)
   where
     go : (gs : List Grant) (k : ℕ) →
-        ((d : Option ℕ) → last_or d (map (λ (c : Call). Some c.occasion) (those with_grant cs)) ≡ last_or d (occasions (numbered_from g k cs))) →
-        last_or d (map (λ (c : Call). Some c.occasion) (cond (not (eqb (length gs) 0)) (c ∷ those with_grant cs) (those with_grant cs)))
+        ((d : Option ℕ) → last_or d (map (λ (c : Call). Some c.occasion) (filter with_grant cs)) ≡ last_or d (occasions (numbered_from g k cs))) →
+        last_or d (map (λ (c : Call). Some c.occasion) (cond (not (eqb (length gs) 0)) (c ∷ filter with_grant cs) (filter with_grant cs)))
         ≡ last_or d (occasions (assignments g c.occasion k n gs ++ numbered_from g k cs))
     go [] k ih = ih d
     go (a ∷ gs) k ih =

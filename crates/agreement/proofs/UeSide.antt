@@ -1,13 +1,13 @@
 -- What the UE makes of what arrived. Assumes nothing.
 use Rattle.std.proofs.Common.{◌≡◌, ℕ, ◌+◌, ◌-◌, ◌*◌, ◌<◌, ◌≤◌, Bool, true, false, cond, ◌&&◌, eqb, leb, ◌⊎◌, List, [], ◌∷◌, map, length, get_or, is_some, Some, None, Ok, Option, Result, sym, refl, ap, ◌∙◌, subst, ap₂, inl, inr, ⊎_elim, mul-le-mul, arith}
-use Rattle.std.specs.List.{AllByRecursion}
+use Rattle.std.specs.List.{AllByRecursion, filter, list_all}
 use Rattle.std.proofs.ByRecursion.{All-weaker, All-map}
 use Rattle.std.proofs.lemmas.List.{length-map, get_or-map, get_or_past}
 use Rattle.std.proofs.lemmas.Bool.{true≢false, cases_lt, and_parts, and_from, not-false, le-ltb, cond-true, cond-false, cond_both}
 use Rattle.dai.specs.Values.{value}
 use Rattle.harq.specs.declared.configs.Config.{Config}
 use Rattle.harq.specs.declared.sps.SpsEntry.{SpsEntry}
-use Rattle.harq.specs.Words.{those, onward, every}
+use Rattle.harq.specs.Words.{onward}
 use Rattle.harq.specs.Configs.{span, config_within, bits_per_place}
 use Rattle.harq.specs.SpsLists.{entry_fits, unfit_from}
 use Rattle.harq.specs.Placing.{places, slot_count}
@@ -40,7 +40,7 @@ fits_on true x o e = (refl, e)
 fits_on false x o e = let z : ◌≡◌ {A = ℕ} 0 1 = cc in absurd (omega arith)
 
 -- an SPS list that the gNB accepted is accepted by the UE, with outcomes 0 or 1
-sps_fits : (g : Config) (sps : List SpsOutcome) (i : ℕ) (previous : Option SpsEntry) → every (λ (s : SpsOutcome). leb s.outcome 1) sps ≡ true →
+sps_fits : (g : Config) (sps : List SpsOutcome) (i : ℕ) (previous : Option SpsEntry) → list_all (λ (s : SpsOutcome). leb s.outcome 1) sps ≡ true →
     unfit_from (λ e. e) (λ _. true) g i previous (map (λ (s : SpsOutcome). s.entry) sps) ≡ None →
     unfit_from (λ (s : SpsOutcome). s.entry) (λ (s : SpsOutcome). leb s.outcome 1) g i previous sps ≡ None
 sps_fits g [] i previous sound e = refl
@@ -91,7 +91,7 @@ module _ (x : Exchange) (p : Premises x) where
 
   -- those that arrived
   abbrev came : List Assignment
-  came = those (here x.fates) xs
+  came = filter (here x.fates) xs
 
   -- what is known of each
   all_got : AllByRecursion (Got g x.fates xs nothing s) came

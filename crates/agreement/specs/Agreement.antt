@@ -1,8 +1,8 @@
 -- When the cards agree. Assumes nothing.
 -- To read: `A ↔ B` is "exactly when", `A ⊎ B` is "or", `A × B` is "and", `A → ⊥` is "not A", `(k : ℕ) → A` is "for every number k", `get_or xs i d` and
 -- `slice_index_or xs i d` are the i-th element of xs counted from 0 (d past its end), `x.f` is the field f of x, `IfOk r P` is "if r is an answer, P holds of it".
+use Rattle.std.specs.List.{list_all}
 use Rattle.std.specs.Prelude.{◌≡◌, ℕ, ◌+◌, ◌-◌, ◌*◌, ◌<◌, ◌≤◌, Bool, true, not, ◌⊎◌, ◌↔◌, List, ◌++◌, map, length, get_or, take, is_ok, IfOk, None, Ok, nat_le, slice_index, slice_index_or}
-use Rattle.harq.specs.Words.{every}
 use Rattle.harq.specs.Configs.{bits_per_place}
 use Rattle.sink.specs.Bits.{bits_of}
 use Rattle.ue.specs.declared.arrivals.SpsOutcome.{SpsOutcome}
@@ -25,7 +25,7 @@ pub record Premises (x : Exchange) : Type 0 where
   pub opened : opening_refused x.config (sps_list x) (length x.marks) ≡ None
   -- every outcome that arrived is 0 or 1, of SPS receptions too
   pub outcomes : (k d : ℕ) → Arrived x k → d < (assignment x k).blocks → outcome (fate x k) d ≤ 1
-  pub sps_outcomes : every (λ (s : SpsOutcome). nat_le s.outcome 1) x.sps ≡ true
+  pub sps_outcomes : list_all (λ (s : SpsOutcome). nat_le s.outcome 1) x.sps ≡ true
   -- the UE has slots enough, and its sink room for the length that the gNB expects
   pub slots : count_sent x ≤ length x.slots
   pub room : bits_per_place x.config * count_sent x + length x.sps ≤ x.room

@@ -1,9 +1,10 @@
 -- One exchange between gNB and UE, from opening to the counts. Assumes nothing.
+use Rattle.std.specs.List.{filter}
 use Rattle.std.specs.Prelude.{ℕ, ◌-◌, Bool, List, map, length, Some, None, Option, Result, slice_index_or}
 use Rattle.harq.specs.declared.configs.Config.{Config}
 use Rattle.harq.specs.declared.refusals.Refusal.{Refusal}
 use Rattle.harq.specs.declared.sps.SpsEntry.{SpsEntry}
-use Rattle.harq.specs.Words.{those, last_or}
+use Rattle.harq.specs.Words.{last_or}
 use Rattle.sink.specs.Bits.{bits_of}
 use Rattle.ue.specs.declared.arrivals.Arrival.{Arrival}
 use Rattle.ue.specs.declared.arrivals.SpsOutcome.{SpsOutcome}
@@ -61,7 +62,7 @@ fate x k = fate_of x.fates k
 
 -- the last occasion used: that of the last accepted call with a grant
 abbrev pub last_occasion_used : Exchange → Option ℕ
-last_occasion_used x = last_or None (map (λ (c : Call). Some c.occasion) (those with_grant (calls_accepted x)))
+last_occasion_used x = last_or None (map (λ (c : Call). Some c.occasion) (filter with_grant (calls_accepted x)))
 
 -- what the UE has of them
 abbrev pub all_arrived : Exchange → List Arrival

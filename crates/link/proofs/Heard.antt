@@ -1,9 +1,9 @@
 -- Reading bytes that hold a report is reading its bits. Assumes nothing.
+use Rattle.std.specs.List.{list_all}
 use Rattle.std.proofs.Common.{◌≡◌, ℕ, zero, suc, ◌+◌, ◌-◌, ◌*◌, ◌<◌, ◌≤◌, Bool, true, false, leb, List, [], ◌∷◌, length, get_or, take, sym, refl, ap, ◌∙◌, ap₂, mul-le-mul_left, mul-add, arith}
 use Rattle.std.proofs.lemmas.List.{get_or-take}
 use Rattle.std.proofs.lemmas.Bool.{and_parts, leb-true}
 use Rattle.harq.specs.declared.configs.Config.{Config}
-use Rattle.harq.specs.Words.{every}
 use Rattle.harq.specs.Configs.{bits_per_place}
 use Rattle.gnb.specs.declared.batches.BatchState.{BatchState}
 use Rattle.gnb.specs.declared.grants.GrantEntry.{GrantEntry}
@@ -16,14 +16,14 @@ use Rattle.agreement.proofs.Marking.{bit_within}
 
 -- the first elements made anew in two ways that are alike on them
 firsts_same : {X : Type 0} (f h : ℕ → X → X) (test : X → Bool) (top : ℕ) → ((i : ℕ) (x : X) → i < top → test x ≡ true → f i x ≡ h i x) →
-    (k n : ℕ) (xs : List X) → k + n ≤ top → every test (take n xs) ≡ true → firsts f k n xs ≡ firsts h k n xs
+    (k n : ℕ) (xs : List X) → k + n ≤ top → list_all test (take n xs) ≡ true → firsts f k n xs ≡ firsts h k n xs
 firsts_same f h test top alike k zero xs le all = refl
 firsts_same f h test top alike k (suc n) [] le all = refl
 firsts_same f h test top alike k (suc n) (x ∷ xs) le all =
-    let p = and_parts (test x) (every test (take n xs)) all in
+    let p = and_parts (test x) (list_all test (take n xs)) all in
     ap₂ ◌∷◌ (alike k x (omega arith) p.0) (firsts_same f h test top alike (k + 1) n xs (omega arith) p.1)
 
-every_any : {X : Type 0} (xs : List X) → every (λ _. true) xs ≡ true
+every_any : {X : Type 0} (xs : List X) → list_all (λ _. true) xs ≡ true
 every_any [] = refl
 every_any (x ∷ xs) = every_any xs
 
@@ -59,7 +59,7 @@ module _ (answers : Bool) (bits all : List Bool) (held : answers ≡ true → ta
         (marks_same b.config e.number e.marks (λ d h is. bit_below e.number d (omega arith) le h is))
 
     -- the table is marked alike
-    pub table_same : (table : List GrantEntry) → every (has_place b.numbered) (take b.numbered table) ≡ true →
+    pub table_same : (table : List GrantEntry) → list_all (has_place b.numbered) (take b.numbered table) ≡ true →
         table_read b answers all table ≡ table_read b answers bits table
     table_same table placed =
         firsts_same (λ _ e. entry_read b.config answers all e) (λ _ e. entry_read b.config answers bits e) (has_place b.numbered) b.numbered

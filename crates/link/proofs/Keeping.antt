@@ -1,5 +1,5 @@
 -- The cards agree, by what both cards in one call answer and leave. Assumes nothing.
-use Rattle.std.proofs.Common.{◌≡◌, ℕ, ◌-◌, ◌*◌, ◌≤◌, Bool, false, List, ◌++◌, length, take, replicate, Ok, Option, Result, sym, refl, ap, ◌∙◌, subst, ap₂, arith}
+use Rattle.std.proofs.Common.{◌≡◌, ℕ, ◌-◌, ◌*◌, ◌≤◌, Bool, false, List, ◌++◌, length, take, replicate, Ok, Result, sym, refl, ap, ◌∙◌, subst, ap₂, arith}
 use Rattle.std.proofs.lemmas.List.{length-append, length-replicate, take_at}
 use Rattle.harq.specs.declared.refusals.Refusal.{Refusal}
 use Rattle.sink.specs.Bits.{bits_of, bytes_of}
@@ -10,9 +10,9 @@ use Rattle.gnb.specs.declared.grants.GrantEntry.{GrantEntry}
 use Rattle.gnb.specs.declared.marks.Mark.{Mark}
 use Rattle.gnb.specs.Calls.{expected}
 use Rattle.gnb.specs.Opening.{opened_by, fresh_batch}
-use Rattle.gnb.specs.Readings.{answering, counted, settled, table_settled, marks_settled}
+use Rattle.gnb.specs.Readings.{answering, counted}
 use Rattle.link.specs.declared.exchanges.Exchanged.{Exchanged}
-use Rattle.agreement.specs.Exchanges.{Exchange, Outcome, sps_list, all_arrived, reported, report_length, report_answered, batch_left, table_left, marks_left, outcome_by}
+use Rattle.agreement.specs.Exchanges.{Exchange, sps_list, all_arrived, reported, report_length, report_answered, batch_left, outcome_by}
 use Rattle.agreement.specs.Agreement.{Premises, Hold, Agreement}
 use Rattle.link.specs.Played.{is_expected, answers, bits_gained, table_marked, marks_marked, opening, if_opened, exchanged_by, exchanged, table_exchanged, marks_exchanged, outcome_of, Agreed, KeepsAgreement}
 use Rattle.agreement.proofs.Left.{reading_none}

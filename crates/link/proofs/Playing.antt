@@ -1,10 +1,11 @@
 -- The steps of an exchange, put together. Assumes nothing.
+use Rattle.std.specs.List.{list_all}
 use Rattle.std.proofs.Common.{◌≡◌, ℕ, ◌≤◌, true, false, List, map, length, take, Some, None, Ok, Err, Option, Result, sym, refl, ap, ◌∙◌, arith}
 use Rattle.std.proofs.lemmas.Bool.{eqb-true, le-ltb, or_from, true≢false}
 use Rattle.harq.specs.declared.configs.Config.{Config}
 use Rattle.harq.specs.declared.refusals.Refusal.{Refusal}
 use Rattle.harq.specs.declared.sps.SpsEntry.{SpsEntry}
-use Rattle.harq.specs.Words.{every, onward}
+use Rattle.harq.specs.Words.{onward}
 use Rattle.sink.specs.Bits.{bits_of}
 use Rattle.ue.specs.declared.declines.Decline.{Decline}
 use Rattle.ue.specs.Checks.{judged, length_of}
@@ -78,7 +79,7 @@ module _ (x : Exchange) (b : BatchState) (is : Ok b ≡ opening x) where
   pub sent_fit : (batch_left x).numbered ≤ length (table_left x)
   sent_fit = entries_fit x.config (sps_list x) x.table x.calls (batch_left x) (table_left x) (left x unrefused)
 
-  pub own : every (has_place (batch_left x).numbered) (take (batch_left x).numbered (table_left x)) ≡ true
+  pub own : list_all (has_place (batch_left x).numbered) (take (batch_left x).numbered (table_left x)) ≡ true
   own = entries_placed x.config (sps_list x) x.table x.calls (batch_left x) (table_left x) (left x unrefused)
 
   -- the entries hold what was sent

@@ -1,6 +1,6 @@
 // Settlement of a batch by what the gNB heard.
+ghost use Rattle.std.specs.List.{list_all};
 ghost use Rattle.std.specs.Prelude.{◌≡◌, ◌*◌, ◌≤◌, true, false, length, take, IfOk};
-ghost use Rattle.harq.specs.Words.{every};
 ghost use Rattle.sink.specs.Bits.{bits_of};
 ghost use Rattle.gnb.specs.Calls.{expected};
 ghost use Rattle.gnb.specs.Readings.{table_read, sps_read, counted, too_short, has_place};
@@ -18,7 +18,7 @@ pub(crate) fn settle(
     bytes: &[u8],
 ) -> Counts
     requires lent { too_short awaiting.batch (length table.old) (length marks.old) ≡ false }
-    requires own { every (has_place awaiting.batch.numbered) (take awaiting.batch.numbered table.old) ≡ true }
+    requires own { list_all (has_place awaiting.batch.numbered) (take awaiting.batch.numbered table.old) ≡ true }
     requires held { IfOk report (λ n. n ≤ 8 * length bytes.now) }
     ensures counts { result ≡ counted awaiting.batch (table_read awaiting.batch (is_expected (expected awaiting.batch) report) (bits_of bytes.now) table.old) (sps_read awaiting.batch (is_expected (expected awaiting.batch) report) (bits_of bytes.now) marks.old) }
     ensures table { table.new ≡ table_read awaiting.batch (is_expected (expected awaiting.batch) report) (bits_of bytes.now) table.old }

@@ -1,11 +1,11 @@
 -- DAI values, layouts and fields. Assumes nothing.
+use Rattle.std.specs.List.{range_with_len}
 use Rattle.std.specs.Prelude.{ℕ, cond, List, [], ◌∷◌, map, Some, None, Option}
 use Rattle.dai.specs.declared.Layout.{Layout}
 use Rattle.dai.specs.declared.Layout.TheVariants.{One, Two, Four}
 use Rattle.dai.specs.Values.{value, code}
 use Rattle.dai.specs.Fields.{width, span, has_total, coded, reading}
 use Rattle.harq.specs.declared.configs.Config.{Config}
-use Rattle.harq.specs.Words.{counting_from}
 use Rattle.harq.specs.Configs as config
 use Rattle.tables.specs.Setups.{one_cell, two_cells, with_width}
 use Rattle.tables.specs.Rows.{Row, line, Holds}
@@ -20,7 +20,7 @@ field_bits None = 0
 field_bits (Some l) = width l
 
 abbrev bits_by_format : Config → List ℕ
-bits_by_format g = map (λ format. field_bits (config.layout_of g format)) (counting_from 0 4)
+bits_by_format g = map (λ format. field_bits (config.layout_of g format)) (range_with_len 0 4)
 
 -- the fields of assignments by their number and how many are numbered up to their occasion
 abbrev coded_all : Layout → List (ℕ × ℕ) → List ℕ
@@ -29,9 +29,9 @@ coded_all l assignments = map (λ (a : ℕ × ℕ). coded l a.0 a.1) assignments
 -- values, layouts and coded fields
 abbrev pub numbers : List (Row (List ℕ))
 numbers =
-    line "values of numbers 1 to 9, span 4" (map (value 4) (counting_from 1 9)) (1 ∷ 2 ∷ 3 ∷ 4 ∷ 1 ∷ 2 ∷ 3 ∷ 4 ∷ 1 ∷ [])
-    ∷ line "values of numbers 1 to 9, span 2" (map (value 2) (counting_from 1 9)) (1 ∷ 2 ∷ 1 ∷ 2 ∷ 1 ∷ 2 ∷ 1 ∷ 2 ∷ 1 ∷ [])
-    ∷ line "codes of values 1 to 4" (map code (counting_from 1 4)) (0 ∷ 1 ∷ 2 ∷ 3 ∷ [])
+    line "values of numbers 1 to 9, span 4" (map (value 4) (range_with_len 1 9)) (1 ∷ 2 ∷ 3 ∷ 4 ∷ 1 ∷ 2 ∷ 3 ∷ 4 ∷ 1 ∷ [])
+    ∷ line "values of numbers 1 to 9, span 2" (map (value 2) (range_with_len 1 9)) (1 ∷ 2 ∷ 1 ∷ 2 ∷ 1 ∷ 2 ∷ 1 ∷ 2 ∷ 1 ∷ [])
+    ∷ line "codes of values 1 to 4" (map code (range_with_len 1 4)) (0 ∷ 1 ∷ 2 ∷ 3 ∷ [])
     ∷ line "bits of the layouts" (map width layouts) (1 ∷ 2 ∷ 4 ∷ [])
     ∷ line "counter values of the layouts" (map span layouts) (2 ∷ 4 ∷ 4 ∷ [])
     ∷ line "layouts with a total" (map (λ l. cond (has_total l) 1 0) layouts) (0 ∷ 0 ∷ 1 ∷ [])
@@ -69,12 +69,12 @@ both counter total = Some (counter, Some total)
 -- every field of every layout
 abbrev pub readings : List (Row (List Reading))
 readings =
-    line "one bit, and a field too wide" (map (reading One) (counting_from 0 3)) (bare 1 ∷ bare 2 ∷ None ∷ [])
-    ∷ line "two bits, and a field too wide" (map (reading Two) (counting_from 0 5)) (bare 1 ∷ bare 2 ∷ bare 3 ∷ bare 4 ∷ None ∷ [])
-    ∷ line "four bits, from field 0 on" (map (reading Four) (counting_from 0 4)) (both 1 1 ∷ both 1 2 ∷ both 1 3 ∷ both 1 4 ∷ [])
-    ∷ line "four bits, from field 4 on" (map (reading Four) (counting_from 4 4)) (both 2 1 ∷ both 2 2 ∷ both 2 3 ∷ both 2 4 ∷ [])
-    ∷ line "four bits, from field 8 on" (map (reading Four) (counting_from 8 4)) (both 3 1 ∷ both 3 2 ∷ both 3 3 ∷ both 3 4 ∷ [])
-    ∷ line "four bits, from field 12 on, and one too wide" (map (reading Four) (counting_from 12 5)) (both 4 1 ∷ both 4 2 ∷ both 4 3 ∷ both 4 4 ∷ None ∷ [])
+    line "one bit, and a field too wide" (map (reading One) (range_with_len 0 3)) (bare 1 ∷ bare 2 ∷ None ∷ [])
+    ∷ line "two bits, and a field too wide" (map (reading Two) (range_with_len 0 5)) (bare 1 ∷ bare 2 ∷ bare 3 ∷ bare 4 ∷ None ∷ [])
+    ∷ line "four bits, from field 0 on" (map (reading Four) (range_with_len 0 4)) (both 1 1 ∷ both 1 2 ∷ both 1 3 ∷ both 1 4 ∷ [])
+    ∷ line "four bits, from field 4 on" (map (reading Four) (range_with_len 4 4)) (both 2 1 ∷ both 2 2 ∷ both 2 3 ∷ both 2 4 ∷ [])
+    ∷ line "four bits, from field 8 on" (map (reading Four) (range_with_len 8 4)) (both 3 1 ∷ both 3 2 ∷ both 3 3 ∷ both 3 4 ∷ [])
+    ∷ line "four bits, from field 12 on, and one too wide" (map (reading Four) (range_with_len 12 5)) (both 4 1 ∷ both 4 2 ∷ both 4 3 ∷ both 4 4 ∷ None ∷ [])
     ∷ []
 
 abbrev pub FieldsRead : Type 0

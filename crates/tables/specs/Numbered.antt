@@ -1,10 +1,10 @@
 -- Opening and numbering at the gNB: refusals, limits from both sides, which reason is told first, fields and lengths. Assumes nothing.
+use Rattle.std.specs.List.{range_with_len}
 use Rattle.std.specs.Prelude.{ℕ, ◌+◌, List, [], ◌∷◌, ◌++◌, map, Some, None, Ok, Err, Option, Result}
 use Rattle.harq.specs.declared.configs.Config.{Config}
 use Rattle.harq.specs.declared.refusals.Refusal.{Refusal}
 use Rattle.harq.specs.declared.sps.SpsEntry.{SpsEntry}
 use Rattle.harq.specs.Refusals.{number_of}
-use Rattle.harq.specs.Words.{counting_from}
 use Rattle.gnb.specs.declared.batches.BatchState.{BatchState}
 use Rattle.gnb.specs.declared.grants.Grant.{Grant}
 use Rattle.gnb.specs.Calls.{call_answer, batch_after, expected}
@@ -18,7 +18,7 @@ abbrev listed : ℕ → ℕ → ℕ → SpsEntry
 listed cell configuration slot = record { cell = cell; configuration = configuration; slot = slot }
 
 abbrev listed_row : ℕ → List SpsEntry
-listed_row n = map (λ slot. listed 0 0 slot) (counting_from 0 n)
+listed_row n = map (λ slot. listed 0 0 slot) (range_with_len 0 n)
 
 -- what opening tells, with that many marks: 0 where it opens, else the number of the refusal
 abbrev told_by : Option Refusal → ℕ
@@ -76,7 +76,7 @@ five = call 0 (on 0 ∷ on 1 ∷ []) ∷ call 1 (on 1 ∷ []) ∷ call 2 (on 0 �
 
 -- a grant on each cell in each occasion
 abbrev every_cell : ℕ → ℕ → List Call
-every_cell occasions n = map (λ m. call m (map (λ c. grant c by_1_1 2) (counting_from 0 n))) (counting_from 0 occasions)
+every_cell occasions n = map (λ m. call m (map (λ c. grant c by_1_1 2) (range_with_len 0 n))) (range_with_len 0 occasions)
 
 abbrev pub openings : List (Row (List ℕ))
 openings =
@@ -113,7 +113,7 @@ calls_answered =
     ∷ line "width 1 bars formats 1_0 and 1_1" (answers (with_width 1 two_cells) 9 (call 0 (grant 0 by_1_0 1 ∷ []) ∷ call 0 (grant 0 by_1_1 1 ∷ []) ∷ call 0 (grant 0 by_1_2 1 ∷ []) ∷ [])) (104 ∷ 104 ∷ 1 ∷ [])
     ∷ line "two blocks in modes 0 and 1" (answers two_cells 9 (call 0 (grant 0 by_1_1 2 ∷ []) ∷ []) ++ answers (in_mode 1 two_cells) 9 (call 0 (grant 0 by_1_1 2 ∷ []) ∷ call 1 (grant 0 by_1_1 3 ∷ []) ∷ [])) (105 ∷ 1 ∷ 105 ∷ [])
     ∷ line "no block" (answers two_cells 9 (call 0 (grant 0 by_1_0 0 ∷ []) ∷ [])) (1 ∷ [])
-    ∷ line "sixteen grants in the last of 32 occasions" (answers (in_mode 1 largest) 511 (call 31 (map (λ c. on c) (counting_from 0 16)) ∷ [])) (16 ∷ [])
+    ∷ line "sixteen grants in the last of 32 occasions" (answers (in_mode 1 largest) 511 (call 31 (map (λ c. on c) (range_with_len 0 16)) ∷ [])) (16 ∷ [])
     ∷ []
 
 abbrev pub reasons : List (Row (List ℕ))

@@ -1,8 +1,8 @@
 -- Each refusal of a report, each limit from both sides. Assumes nothing.
+use Rattle.std.specs.List.{range_with_len}
 use Rattle.std.specs.Prelude.{◌≡◌, ℕ, List, [], ◌∷◌, map}
 use Rattle.harq.specs.declared.configs.Config.{Config}
 use Rattle.harq.specs.declared.refusals.Refusal.TheVariants as why
-use Rattle.harq.specs.Words.{counting_from}
 use Rattle.harq.specs.Refusals.{number_of}
 use Rattle.ue.specs.declared.arrivals.SpsOutcome.{SpsOutcome}
 use Rattle.ue.specs.declared.declines.Part.TheVariants.{Configuration, Arrival, Sps, Whole}
@@ -13,7 +13,7 @@ use Rattle.tables.specs.Rows.{Row, Told, Declined, row, long_row, reports, answe
 abbrev pub RefusalsNumbered : Type 0
 RefusalsNumbered =
     map number_of (why.Configuration ∷ why.Range ∷ why.Order ∷ why.Field ∷ why.Blocks ∷ why.Totals ∷ why.Sps ∷ why.Length ∷ why.Room ∷ why.Early ∷ why.Trace ∷ why.Table ∷ why.Place ∷ [])
-    ≡ counting_from 1 13
+    ≡ range_with_len 1 13
 
 -- nothing arrives
 abbrev empty : Config → Batch

@@ -1,7 +1,7 @@
 -- Batches at the UE in few words: configurations, arrivals, SPS receptions. Assumes nothing.
+use Rattle.std.specs.List.{range_with_len}
 use Rattle.std.specs.Prelude.{ℕ, ◌/◌, ◌%◌, List, [], ◌∷◌, ◌++◌, map, take, replicate}
 use Rattle.harq.specs.declared.configs.Config.{Config}
-use Rattle.harq.specs.Words.{counting_from}
 use Rattle.ue.specs.declared.arrivals.Arrival.{Arrival}
 use Rattle.ue.specs.declared.arrivals.SpsOutcome.{SpsOutcome}
 
@@ -77,7 +77,7 @@ arrives occasion cell format field b =
 
 -- n arrivals over 16 cells by format 1_0, each with counter 1: four slots for each but the last
 abbrev pub ones : ℕ → List Arrival
-ones n = map (λ i. arrives (i / 16) (i % 16) by_1_0 0 ack) (counting_from 0 n)
+ones n = map (λ i. arrives (i / 16) (i % 16) by_1_0 0 ack) (range_with_len 0 n)
 
 -- an SPS reception: cell, configuration, slot, outcome
 abbrev pub sps : ℕ → ℕ → ℕ → ℕ → SpsOutcome
@@ -85,7 +85,7 @@ sps cell configuration slot outcome = record { entry = record { cell = cell; con
 
 -- n SPS receptions, slot by slot, all good
 abbrev pub sps_row : ℕ → List SpsOutcome
-sps_row n = map (λ slot. sps 0 0 slot 1) (counting_from 0 n)
+sps_row n = map (λ slot. sps 0 0 slot 1) (range_with_len 0 n)
 
 -- what the report is made from, with how many slots are lent and how many bits the sink has room for
 pub record Batch : Type 0 where

@@ -1,6 +1,6 @@
+use Rattle.std.specs.List.{list_all}
 use Rattle.std.proofs.Common.{◌≡◌, List, length, take, sym, refl, ap, ◌∙◌, subst, ap₂, arith}
 use Rattle.std.proofs.lemmas.Result.{err_from_is_err_and}
-use Rattle.harq.specs.Words.{every}
 use Rattle.sink.specs.Bits.{bits_of}
 use Rattle.ue.specs.declared.arrivals.Arrival.{Arrival}
 use Rattle.ue.specs.Reports.{gained_by}
@@ -51,7 +51,7 @@ settle-counts-requires-clause-own g c =
     let is = c.in_ok-numbering.ensures.answer in
     let batch : c.close-expected.result.1.batch ≡ batch_left x = c.close-expected.ensures.batch ∙ c.number_all-sent.ensures.batch ∙ batch_is x b is in
     let table : c.number_all-sent.new.table ≡ table_left x = c.number_all-sent.ensures.table ∙ table_is x b is in
-    ap₂ (λ (s : BatchState) (t : List GrantEntry). every (has_place s.numbered) (take s.numbered t)) batch table ∙ own x b is
+    ap₂ (λ (s : BatchState) (t : List GrantEntry). list_all (has_place s.numbered) (take s.numbered t)) batch table ∙ own x b is
 
 pub returns : goal.returns
 returns g c =
