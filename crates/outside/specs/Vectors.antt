@@ -2,7 +2,7 @@
 use Rattle.std.specs.Prelude.{ℕ, Bool, true, false, cond, ◌&&◌, List, [], ◌∷◌, length, drop, Some, None, codes, Option, ◌==◌}
 use Rattle.std.specs.Borrow.{Bor}
 use Rattle.std.specs.Option.{option_map}
-use Rattle.conformance.specs.declared.vectors.Vector.{Vector}
+use Rattle.outside.specs.declared.vectors.Vector.{Vector}
 
 -- an empty line and one that begins with `#`
 abbrev pub passed_over : List ℕ → Bool

@@ -4,7 +4,7 @@ use Rattle.std.specs.Str.Pattern.{FindsText, LacksTextAt}
 use Rattle.std.specs.Option.{option_map}
 use Rattle.std.proofs.lemmas.List.Prefix.{front_rest}
 use Rattle.std.proofs.lemmas.Bool.{eqb-true, eq-eqb, and_parts, and_from}
-use Rattle.conformance.specs.Vectors.{begins_with, split_at, both_texts}
+use Rattle.outside.specs.Vectors.{begins_with, split_at, both_texts}
 
 begins_true : (mark text rest : List ℕ) → text ≡ mark ++ rest → begins_with mark text ≡ true
 begins_true [] text rest e = refl

@@ -1,7 +1,7 @@
 // A line of outside vectors, and its parts.
 ghost use Rattle.std.specs.Prelude.{◌≡◌};
 ghost use Rattle.std.specs.Option.{option_map};
-ghost use Rattle.conformance.specs.Vectors.{passed_over, split_at, vector_in, both_texts, said};
+ghost use Rattle.outside.specs.Vectors.{passed_over, split_at, vector_in, both_texts, said};
 
 // What should come of an input.
 #[derive(Clone, Copy)]
