@@ -19,7 +19,7 @@ use Rattle.gnb.specs.Readings.{answering, block_bit, mark_by, marks_in, marks_by
 use Rattle.agreement.specs.Exchanges.{Exchange, Outcome, sps_list, all_sent, count_sent, assignment, all_arrived, reported, report_length, report_answered}
 use Rattle.agreement.specs.Exchanges.{batch_left, table_left, marks_left, reading_why, outcome_by}
 use Rattle.agreement.specs.Losses.{HasBlock}
-use Rattle.agreement.specs.Agreement.{Premises, Hold, no_entry, mark, sps_mark, all_marks, LengthsEqual, MarksAgree, CountsAgree, Agreement}
+use Rattle.agreement.specs.Agreement.{Premises, Hold, no_entry, mark, sps_mark, all_marks, LengthsEqual, MarksAgree, MarkCountsAgree, Agreement}
 use Rattle.agreement.proofs.Sides.{slots_made, UeSide}
 use Rattle.gnb.proofs.Firsts.{length_firsts, get_or_firsts}
 use Rattle.gnb.proofs.Entries.{entry_number, entry_blank, entries_fit}
@@ -157,7 +157,7 @@ module _ (x : Exchange) (bytes : List ℕ) (p : Premises x) (u : UeSide x) (hold
   counts_from : (m : Mark) → 0 + how_often m (entry_marks (take (batch_left x).numbered out.table) ++ take (batch_left x).sps out.marks) ≡ how_often m (all_marks x out)
   counts_from m = let none : 0 + how_often m (all_marks x out) ≡ how_often m (all_marks x out) = omega arith in ap (λ (l : List Mark). 0 + how_often m l) marks_counted ∙ none
 
-  counts_agree : CountsAgree x out (counted (batch_left x) out.table out.marks)
+  counts_agree : MarkCountsAgree x out (counted (batch_left x) out.table out.marks)
   counts_agree =
       let many = (left x p.opened).blocks in
       let granted : (batch_left x).granted ≡ blocks_sent (all_sent x) + length x.sps = omega (arith, many, (left x p.opened).listed, sps_left x p.opened) in

@@ -72,7 +72,7 @@ pub record MarksAgree (x : Exchange) (o : Outcome) : Type 0 where
   pub sps_unanswered : (i : ℕ) → i < length x.sps → (sps_mark o i ≡ Unanswered) ↔ (LengthsEqual o → ⊥)
 
 -- the counts that reading answers
-pub record CountsAgree (x : Exchange) (o : Outcome) (c : Counts) : Type 0 where
+pub record MarkCountsAgree (x : Exchange) (o : Outcome) (c : Counts) : Type 0 where
   -- they are taken from the grants and from the marks
   pub granted : c.granted ≡ blocks_sent (all_sent x) + length x.sps
   pub delivered : c.delivered ≡ how_often Delivered (all_marks x o)
@@ -95,7 +95,7 @@ pub record Agreement (x : Exchange) (o : Outcome) : Type 0 where
   -- it is as long exactly when nothing was sent, or every run of losses is short and the end is known
   pub lengths : LengthsEqual o ↔ (NothingSent x ⊎ (RunsShort x × (LastArrived x ⊎ TotalInLastUsed x)))
   pub marks : MarksAgree x o
-  pub counts : IfOk o.reading (λ c. CountsAgree x o c)
+  pub counts : IfOk o.reading (λ c. MarkCountsAgree x o c)
 
 -- The claim, over the rules of both cards. Whatever calls are made and whatever is lost: the report goes behind what the sink's list held before, and where
 -- the gNB reads bytes that hold the bits which the list gained, with the report's length, the cards agree.

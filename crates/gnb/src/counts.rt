@@ -5,7 +5,7 @@ ghost use Rattle.gnb.specs.Readings.{marks_in, entry_marks, with_marks, marked, 
 use crate::grants::GrantEntry;
 use crate::marks::{Mark, Marks};
 
-#[derive(Clone, Copy, Debug, PartialEq, Eq)]
+#[derive(Clone, Copy, Debug, Default, PartialEq, Eq)]
 pub struct Counts {
     // Blocks granted, each SPS entry counting as one.
     pub granted: u32,
@@ -21,9 +21,7 @@ impl Counts {
     {
         Counts {
             granted,
-            delivered: 0,
-            negative: 0,
-            unanswered: 0,
+            ..Counts::default()
         }
     }
 

@@ -2,7 +2,7 @@
 use crate::marks::Marks;
 
 // A downlink grant that is to be numbered.
-#[derive(Clone, Copy, Debug)]
+#[derive(Clone, Copy, Debug, Default)]
 pub struct Grant {
     pub cell: u32,
     // 0: 1_0, 1: 1_1, 2: 1_2.
@@ -12,7 +12,7 @@ pub struct Grant {
 }
 
 // An assignment as it was sent, with the marks of its blocks.
-#[derive(Clone, Copy, Debug)]
+#[derive(Clone, Copy, Debug, Default)]
 pub struct GrantEntry {
     pub cell: u32,
     pub occasion: u32,

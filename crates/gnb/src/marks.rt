@@ -1,12 +1,16 @@
 // What the gNB knows of a transport block.
-ghost use Rattle.std.specs.Prelude.{◌≡◌};
-ghost use Rattle.gnb.specs.Marks.{mark_number, unanswered};
+ghost use Rattle.std.specs.Prelude.{◌≡◌, Some};
+ghost use Rattle.std.specs.Fmt.{padded};
+ghost use Rattle.gnb.specs.Marks.{mark_number, mark_name, mark_of_bit, blank, unanswered};
 
-#[derive(Clone, Copy, Debug, PartialEq, Eq)]
+use std::fmt;
+
+#[derive(Clone, Copy, Debug, Default, PartialEq, Eq)]
 pub enum Mark {
-    Negative,
-    Delivered,
-    Unanswered,
+    #[default]
+    Negative = 0,
+    Delivered = 1,
+    Unanswered = 2,
 }
 
 impl Mark {
@@ -14,11 +18,30 @@ impl Mark {
     pub fn number(self) -> u32
         ensures { result ≡ mark_number self }
     {
-        match self {
-            Mark::Negative => 0,
-            Mark::Delivered => 1,
-            Mark::Unanswered => 2,
-        }
+        self as u32
+    }
+}
+
+// The mark by the bit of a block.
+impl From<bool> for Mark {
+    ghost from_gives = { λ bit mark. mark ≡ mark_of_bit bit };
+
+    fn from(bit: bool) -> Mark {
+        if bit { Mark::Delivered } else { Mark::Negative }
+    }
+}
+
+impl fmt::Display for Mark {
+    ghost output = { λ mark. Some (mark_name mark) };
+
+    ghost styled_output = { λ mark spec. Some (padded spec (mark_name mark)) };
+
+    fn fmt<W: fmt::Write>(&self, f: &mut fmt::Formatter<W>) -> fmt::Result {
+        f.pad(match self {
+            Mark::Negative => "negative",
+            Mark::Delivered => "delivered",
+            Mark::Unanswered => "unanswered",
+        })
     }
 }
 
@@ -27,6 +50,14 @@ impl Mark {
 pub enum Marks {
     One(Mark),
     Two(Mark, Mark),
+}
+
+impl Default for Marks {
+    ghost is_default = { λ marks. marks ≡ blank };
+
+    fn default() -> Marks {
+        Marks::One(Mark::default())
+    }
 }
 
 impl Marks {

@@ -1,5 +1,7 @@
 pub mod Refusals
 pub mod Words
+pub mod Formats
+pub mod Modes
 pub mod Configs
 pub mod SpsLists
 pub mod Placing

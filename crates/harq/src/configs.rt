@@ -6,7 +6,7 @@ ghost use Rattle.harq.specs.Configs.{first_counted, numbers_within, config_withi
 use dai::Layout;
 
 // Entries of `first` from `cells` on are not looked at.
-#[derive(Clone, Copy, Debug, PartialEq, Eq)]
+#[derive(Clone, Copy, Debug, Default, PartialEq, Eq)]
 pub struct Config {
     // Cells, numbered from 0.
     pub cells: u32,

@@ -5,7 +5,7 @@ ghost use Rattle.harq.specs.SpsLists.{entry_within, entry_above, entry_fits, unf
 
 use crate::configs::Config;
 
-#[derive(Clone, Copy, Debug, PartialEq, Eq)]
+#[derive(Clone, Copy, Debug, Default, PartialEq, Eq, PartialOrd, Ord)]
 pub struct SpsEntry {
     pub cell: u32,
     pub configuration: u32,

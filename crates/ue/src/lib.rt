@@ -16,4 +16,4 @@ pub use arrivals::{Arrival, SpsOutcome};
 pub use declines::{Decline, Part};
 pub use reports::{report, report_located};
 pub use slots::Slot;
-pub use transmitter::transmit;
+pub use transmitter::{report_inverted, transmit};

@@ -1,7 +1,8 @@
 // The transmitter: the one place where the sinks of the product are put together.
-ghost use Rattle.std.specs.Prelude.{◌≡◌, length};
+ghost use Rattle.std.specs.Prelude.{◌≡◌, false, not, map, length, is_ok};
 ghost use Rattle.sink.specs.Bits.{bits_of};
 ghost use Rattle.sink.specs.Ends.{capacity};
+ghost use Rattle.sink.specs.Gains.{Gains};
 ghost use Rattle.sink.specs.Written.{written};
 ghost use Rattle.ue.specs.Reports.{report_answer, gained_by, slots_by, refusal_in};
 ghost use Rattle.ue.specs.Transmitters.{on_air};
@@ -12,8 +13,8 @@ use crate::slots::Slot;
 use harq::{Config, Refusal};
 use sink::{BitSink, Inverter, PackedBits};
 
-// The report as the transmitter reads it: 0 is ACK.
-fn report_inverted<S: BitSink>(
+// The report through an inverter over the sink, as the transmitter reads it: 0 is ACK.
+pub fn report_inverted<S: BitSink>(
     config: &Config,
     arrivals: &[Arrival],
     sps: &[SpsOutcome],
@@ -22,7 +23,9 @@ fn report_inverted<S: BitSink>(
 ) -> Result<usize, Refusal>
     ensures answer { result ≡ refusal_in (report_answer config.now arrivals.now sps.now (length slots.old) (S.room sink.old)) }
     ensures slots { slots.new ≡ slots_by config.now arrivals.now slots.old result }
-    ensures took { S.took sink.old (on_air (gained_by config.now arrivals.now sps.now result)) sink.new }
+    ensures gains { Gains S.taken S.room S.took sink.old (map not (gained_by config.now arrivals.now sps.now result)) sink.new }
+    ensures took { S.took sink.old (map not (gained_by config.now arrivals.now sps.now result)) sink.new }
+    ensures kept { is_ok result ≡ false → sink.new ≡ sink.old }
 {
     let mut inverter = Inverter::new(sink);
     report(config, arrivals, sps, slots, &mut inverter)
