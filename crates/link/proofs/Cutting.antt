@@ -1,5 +1,5 @@
 -- An SPS list that is too long is declined, wherever it is cut behind that. Assumes nothing.
-use Rattle.std.proofs.Common.{◌≡◌, ℕ, ◌<◌, min, Bool, true, false, cond, not, ltb, List, length, take, is_some, Some, None, Option, sym, refl, ap, ◌∙◌, inl, inr, arith}
+use Rattle.std.proofs.Common.{◌≡◌, ℕ, ◌<◌, Bool, true, false, cond, not, ltb, List, length, take, is_some, Some, None, Option, sym, refl, ap, ◌∙◌, inl, inr, arith}
 use Rattle.std.proofs.lemmas.List.{take_all, length-take-le}
 use Rattle.std.proofs.lemmas.Bool.{cases_lt}
 use Rattle.harq.specs.declared.configs.Config.{Config}
@@ -39,23 +39,23 @@ module _ (g : Config) where
   kept_alike true m n marks = refl
   kept_alike false m n marks = refl
 
-  module _ (es : List SpsEntry) (n : ℕ) (cut : n ≡ min (length es) 65) where
-    length_cut : 65 < length es → 64 < length (take n es)
-    length_cut long = omega (arith, length-take-le n es (omega arith))
+  module _ (es : List SpsEntry) where
+    length_cut : 65 < length es → 64 < length (take 65 es)
+    length_cut long = omega (arith, length-take-le 65 es (omega arith))
 
-    pub opened_cut : (marks : ℕ) → opened g (take n es) marks ≡ opened g es marks
+    pub opened_cut : (marks : ℕ) → opened g (take 65 es) marks ≡ opened g es marks
     opened_cut marks = elim (cases_lt 65 (length es)) [
       | inl long ↦
-          ap (λ (o : Option Refusal). opened_by o g (take n es)) (long_refused (take n es) marks (length_cut long)) ∙ refused_alike (not (config_within g)) (take n es) es
+          ap (λ (o : Option Refusal). opened_by o g (take 65 es)) (long_refused (take 65 es) marks (length_cut long)) ∙ refused_alike (not (config_within g)) (take 65 es) es
           ∙ ap (λ (o : Option Refusal). opened_by o g es) (sym (long_refused es marks (omega arith)))
-      | inr short ↦ ap (λ (l : List SpsEntry). opened g l marks) (take_all n es (omega arith))
+      | inr short ↦ ap (λ (l : List SpsEntry). opened g l marks) (take_all 65 es (omega arith))
     ]
 
-    pub marks_cut : (marks : List Mark) → marks_opened g (take n es) marks ≡ marks_opened g es marks
+    pub marks_cut : (marks : List Mark) → marks_opened g (take 65 es) marks ≡ marks_opened g es marks
     marks_cut marks = elim (cases_lt 65 (length es)) [
       | inl long ↦
-          ap (λ (o : Option Refusal). marks_by o (length (take n es)) marks) (long_refused (take n es) (length marks) (length_cut long))
-          ∙ kept_alike (not (config_within g)) (length (take n es)) (length es) marks
+          ap (λ (o : Option Refusal). marks_by o (length (take 65 es)) marks) (long_refused (take 65 es) (length marks) (length_cut long))
+          ∙ kept_alike (not (config_within g)) (length (take 65 es)) (length es) marks
           ∙ ap (λ (o : Option Refusal). marks_by o (length es) marks) (sym (long_refused es (length marks) (omega arith)))
-      | inr short ↦ ap (λ (l : List SpsEntry). marks_opened g l marks) (take_all n es (omega arith))
+      | inr short ↦ ap (λ (l : List SpsEntry). marks_opened g l marks) (take_all 65 es (omega arith))
     ]

@@ -6,3 +6,4 @@ pub mod Cutting
 pub mod Heard
 pub mod Playing
 pub mod Keeping
+pub mod Exchanging

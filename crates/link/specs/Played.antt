@@ -1,30 +1,28 @@
 -- Both cards in one call: what it answers, and what it leaves. Assumes nothing.
-use Rattle.std.specs.Prelude.{ℕ, Bool, true, false, not, List, [], map, length, Ok, Err, Result, ◌==◌}
-use Rattle.harq.specs.declared.configs.Config.{Config}
+use Rattle.std.specs.Prelude.{◌≡◌, ℕ, Bool, true, false, List, [], map, length, is_ok, Ok, Err, Result, ◌==◌}
 use Rattle.harq.specs.declared.refusals.Refusal.{Refusal}
-use Rattle.ue.specs.declared.arrivals.SpsOutcome.{SpsOutcome}
+use Rattle.sink.specs.Gains.{Gains}
 use Rattle.ue.specs.declared.slots.Slot.{Slot}
 use Rattle.ue.specs.Reports.{gained_by, slots_by}
 use Rattle.gnb.specs.declared.batches.BatchState.{BatchState}
-use Rattle.gnb.specs.declared.grants.Call as code
 use Rattle.gnb.specs.declared.grants.GrantEntry.{GrantEntry}
 use Rattle.gnb.specs.declared.marks.Mark.{Mark}
 use Rattle.gnb.specs.Opening.{opened}
 use Rattle.gnb.specs.Calls.{expected}
 use Rattle.gnb.specs.Plans.{call_of}
 use Rattle.gnb.specs.Readings.{table_read, sps_read, counted}
+use Rattle.link.specs.declared.exchanges.Batch.{Batch}
 use Rattle.link.specs.declared.exchanges.Exchanged.{Exchanged}
-use Rattle.agreement.specs.declared.fates.Fate.{Fate}
 use Rattle.agreement.specs.Exchanges.{Exchange, Outcome, sps_list, all_arrived, report_answered, batch_left, table_left, marks_left}
 use Rattle.agreement.specs.Agreement.{Premises, Agreement}
 
 -- what goes into a call, as an exchange
-abbrev pub exchange_of : Config → List SpsOutcome → List code.Call → List Fate → List GrantEntry → List Mark → List Slot → ℕ → Exchange
-exchange_of g sps calls fates table marks slots room = record {
-  config = g;
-  sps = sps;
-  calls = map call_of calls;
-  fates = fates;
+abbrev pub exchange_of : Batch → List GrantEntry → List Mark → List Slot → ℕ → Exchange
+exchange_of b table marks slots room = record {
+  config = b.config.now;
+  sps = b.sps.now;
+  calls = map call_of b.calls.now;
+  fates = b.fates.now;
   table = table;
   marks = marks;
   slots = slots;
@@ -91,11 +89,6 @@ report_made (Err e) = false
 abbrev pub reports : Exchange → Bool
 reports x = if_opened (opening x) (report_made (report_answered x)) false
 
--- the bits as they go into the sink below an inverter, or into the sink itself
-abbrev pub aired : Bool → List Bool → List Bool
-aired true bits = map not bits
-aired false bits = bits
-
 -- what the call answered and left, as an outcome: reading is not declined
 abbrev pub outcome_of : Exchanged → List GrantEntry → List Mark → Outcome
 outcome_of e table marks = record { expected = e.expected; report = e.report; reading = Ok e.counts; table = table; marks = marks }
@@ -108,3 +101,17 @@ Agreed x (Err e) table marks = ⊥
 -- under the premises both cards in one call keep their agreement
 abbrev pub KeepsAgreement : Exchange → Result Exchanged Refusal → List GrantEntry → List Mark → Type 0
 KeepsAgreement x r table marks = Premises x → Agreed x r table marks
+
+-- All that comes of a call: what it answers, and what it leaves in the table, the marks, the slots and the sink, which takes the report's bits as
+-- `aired` says.
+pub record IsExchanged {S : Type 0} (taken : S → List Bool) (room : S → ℕ) (takes : S → List Bool → S → Type 0) (aired : List Bool → List Bool)
+    (x : Exchange) (before : S) (r : Result Exchanged Refusal) (entries : List GrantEntry) (sps : List Mark) (places : List Slot) (after : S) : Type 0 where
+  pub answer : r ≡ exchanged x
+  pub table : entries ≡ table_exchanged x
+  pub marks : sps ≡ marks_exchanged x
+  pub slots : places ≡ slots_exchanged x
+  pub gains : Gains taken room takes before (aired (bits_exchanged x)) after
+  pub took : is_ok r ≡ true → takes before (aired (bits_exchanged x)) after
+  -- where no report is made the sink is as it was
+  pub kept : reports x ≡ false → after ≡ before
+  pub agree : KeepsAgreement x r entries sps

@@ -1,24 +1,12 @@
 // The assignments that arrive at the UE.
-ghost use Rattle.std.specs.Prelude.{◌≡◌, ◌≤◌, map, length, take};
+ghost use Rattle.std.specs.Prelude.{◌≡◌, ◌≤◌, map, length};
 ghost use Rattle.gnb.specs.Sending.{assignment_in};
-ghost use Rattle.agreement.specs.Fates.{fate_of, arrival_of, arrivals_of};
+ghost use Rattle.agreement.specs.Fates.{arrival_of, arrivals_of};
 
 use agreement::Fate;
+use arrayvec::ArrayVec;
 use gnb::GrantEntry;
 use ue::Arrival;
-
-const LOST: Fate = Fate {
-    arrived: false,
-    outcomes: [0; 2],
-};
-
-// The fate of a number, counted from 1; past the list all is lost.
-fn fate_of(fates: &[Fate], number: u32) -> Fate
-    ensures { result ≡ fate_of fates.now number }
-{
-    let i = (number as usize).saturating_sub(1);
-    if i < fates.len() { fates[i] } else { LOST }
-}
 
 // An assignment arrives unaltered, with the outcomes of its blocks.
 fn arrival_of(e: &GrantEntry, fate: Fate) -> Arrival
@@ -35,19 +23,17 @@ fn arrival_of(e: &GrantEntry, fate: Fate) -> Arrival
     }
 }
 
-// Lets arrive, into the front of `arrivals`, the assignments of the entries that are not lost, and answers how many they are.
-pub(crate) fn arrive(fates: &[Fate], entries: &[GrantEntry], arrivals: &mut [Arrival]) -> usize
-    requires { length entries.now ≤ length arrivals.old }
-    ensures few { result ≤ length entries.now }
-    ensures arrived { take result arrivals.new ≡ arrivals_of fates.now (map assignment_in entries.now) }
+// Those of the entries' assignments that are not lost.
+pub(crate) fn arrive(fates: &[Fate], entries: &[GrantEntry]) -> ArrayVec<Arrival, 512>
+    requires { length entries.now ≤ 512 }
+    ensures { result.items ≡ arrivals_of fates.now (map assignment_in entries.now) }
 {
-    let mut count = 0;
+    let mut arrivals = ArrayVec::new();
     for e in entries {
-        let fate = fate_of(fates, e.number);
+        let fate = Fate::of(fates, e.number);
         if fate.arrived {
-            arrivals[count] = arrival_of(e, fate);
-            count += 1;
+            arrivals.push(arrival_of(e, fate));
         }
     }
-    count
+    arrivals
 }

@@ -7,6 +7,8 @@ mod openings;
 mod recorders;
 mod reports;
 mod settlements;
+pub mod ways;
 
 pub use agreement::Fate;
-pub use exchanges::{Exchanged, exchange, exchange_inverted};
+pub use exchanges::{Batch, Exchanged};
+pub use ways::{Inverted, Plain, Way};

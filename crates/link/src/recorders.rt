@@ -1,37 +1,33 @@
 // A layer that keeps the bits which the sink below it takes.
-ghost use Rattle.std.specs.Prelude.{◌≡◌, ◌+◌, ◌≤◌, length};
-ghost use Rattle.sink.specs.Bits.{bits_of};
-ghost use Rattle.sink.specs.Written.{Laid};
+ghost use Rattle.std.specs.Prelude.{◌≡◌, ◌+◌, ◌≤◌, [], ◌++◌, length};
 
+use arrayvec::ArrayVec;
 use harq::Refusal;
-use sink::{BitSink, set_bit};
+use sink::BitSink;
 
-// Passes each bit down, and packs those that are taken into an array of its own, the top bit first: as many as the longest report has.
+// Passes each bit down, and keeps those that are taken: as many as 214 bytes hold, which the longest report does not fill.
 #[derive(Drop)]
 pub struct Recorder<S> {
     below: S,
-    bytes: [u8; 214],
-    used: usize,
+    bits: ArrayVec<bool, 1712>,
 }
 
 impl<S: BitSink> Recorder<S> {
     pub fn new(below: S) -> Self
         ensures under { result.below ≡ below }
-        ensures empty { result.used ≡ 0 }
-        ensures long { length result.bytes ≡ 214 }
+        ensures empty { result.bits.items ≡ [] }
     {
         Self {
             below,
-            bytes: [0; 214],
-            used: 0,
+            bits: ArrayVec::new(),
         }
     }
 
-    // The bytes that hold the bits taken.
-    pub fn bytes(&self) -> [u8; 214]
-        ensures { result ≡ self.now.bytes }
+    // The bits taken.
+    pub fn bits(&self) -> &[bool]
+        ensures { result.now ≡ self.now.bits.items }
     {
-        self.bytes
+        self.bits.as_slice()
     }
 }
 
@@ -40,13 +36,12 @@ impl<S: BitSink> BitSink for Recorder<S> {
 
     ghost room = { λ s. S.BitSink.room s.below };
 
-    // The bytes hold the bits, as far as they go.
-    ghost took = { λ s bits t. S.BitSink.took s.below bits t.below × (s.used + length bits ≤ 1712 → Laid 0 (bits_of s.bytes) s.used bits 0 (bits_of t.bytes) t.used) };
+    // It kept the bits, as far as they go.
+    ghost took = { λ s bits t. S.BitSink.took s.below bits t.below × (length s.bits.items + length bits ≤ 1712 → t.bits.items ≡ s.bits.items ++ bits) };
 
     fn put(&mut self, bit: bool) -> Result<(), Refusal> {
         self.below.put(bit)?;
-        let _ = set_bit(&mut self.bytes, self.used, bit);
-        self.used = self.used.saturating_add(1);
+        let _ = self.bits.try_push(bit);
         Ok(())
     }
 

@@ -25,13 +25,7 @@ pub(crate) fn settle(
     ensures marks { marks.new ≡ sps_read awaiting.batch (is_expected (expected awaiting.batch) report) (bits_of bytes.now) marks.old }
 {
     match report {
-        Ok(bits) => match awaiting.read(table, marks, bytes, bits) {
-            Ok(counts) => counts,
-            Err(_e) => unreachable(),
-        },
-        Err(_) => match awaiting.absent(table, marks) {
-            Ok(counts) => counts,
-            Err(_e) => unreachable(),
-        },
+        Ok(bits) => awaiting.read(table, marks, bytes, bits).unwrap(),
+        Err(_) => awaiting.absent(table, marks).unwrap(),
     }
 }

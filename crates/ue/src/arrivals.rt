@@ -5,7 +5,7 @@ use harq::SpsEntry;
 use harq::sps::SpsListed;
 
 // A DCI assignment that arrived, with the outcomes of its blocks (1 ACK, 0 NACK); only the first `blocks` of them count.
-#[derive(Clone, Copy, Debug)]
+#[derive(Clone, Copy, Debug, Default, PartialEq, Eq)]
 pub struct Arrival {
     pub cell: u32,
     pub occasion: u32,
@@ -19,7 +19,7 @@ pub struct Arrival {
 }
 
 // An SPS reception with its outcome.
-#[derive(Clone, Copy, Debug)]
+#[derive(Clone, Copy, Debug, Default, PartialEq, Eq)]
 pub struct SpsOutcome {
     pub entry: SpsEntry,
     pub outcome: u8,

@@ -1,5 +1,4 @@
-use Rattle.std.proofs.Common.{◌≡◌, ℕ, ◌-◌, min, List, map, length, take, sym, ap, ◌∙◌, arith}
-use Rattle.std.proofs.lemmas.List.{length-map}
+use Rattle.std.proofs.Common.{◌≡◌, List, map, length, take, ap, ◌∙◌}
 use Rattle.harq.specs.declared.sps.SpsEntry.{SpsEntry}
 use Rattle.ue.specs.declared.arrivals.SpsOutcome.{SpsOutcome}
 use Rattle.gnb.specs.Opening.{opened, marks_opened}
@@ -9,12 +8,10 @@ use Rattle.link.proofs.openings.open.Goals as goal
 pub returns : goal.returns
 returns c =
     let g = c.args.config.now in
+    let m = c.args.marks.now in
     let entries : List SpsEntry = map (λ (s : SpsOutcome). s.entry) c.args.sps.now in
-    let n = c.min-count.result in
-    let cut : n ≡ min (length entries) 65 = c.min-count.ensures ∙ ap (λ (m : ℕ). min m 65) (sym (length-map c.args.sps.now (λ (s : SpsOutcome). s.entry))) in
-    let whole : n - 0 ≡ n = omega arith in
-    let copied = ap (λ (m : ℕ). take m c.copy_entries.new.entries) whole ∙ c.copy_entries.ensures in
+    let copied : c.deref.result.now ≡ take 65 entries = c.deref.ensures.0 ∙ c.entries_of.ensures in
     record {
-      answer = c.open.ensures.answer ∙ ap (λ (l : List SpsEntry). opened g l (length c.args.marks.now)) copied ∙ opened_cut g entries n cut (length c.args.marks.now);
-      marks = c.open.ensures.marks ∙ ap (λ (l : List SpsEntry). marks_opened g l c.args.marks.now) copied ∙ marks_cut g entries n cut c.args.marks.now;
+      answer = c.open.ensures.answer ∙ ap (λ (l : List SpsEntry). opened g l (length m)) copied ∙ opened_cut g entries (length m);
+      marks = c.open.ensures.marks ∙ ap (λ (l : List SpsEntry). marks_opened g l m) copied ∙ marks_cut g entries m;
     }
