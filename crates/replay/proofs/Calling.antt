@@ -40,6 +40,9 @@ opened_by_none None g sps b e = let is : b ≡ fresh_batch g sps = cc in (refl, 
 opened_by_none (Some y) g sps b e = let z : ◌≡◌ {A = ℕ} 0 1 = cc in absurd (omega arith)
 
 module _ (g : Config) (sps : List SpsEntry) (marks : ℕ) (b : BatchState) (is : Ok b ≡ opened g sps marks) where
+  pub fresh : b ≡ fresh_batch g sps
+  fresh = (opened_by_none (opening_refused g sps marks) g sps b is).1
+
   pub none_numbered : b.numbered ≡ 0
   none_numbered = ap (λ (s : BatchState). s.numbered) (opened_by_none (opening_refused g sps marks) g sps b is).1
 
