@@ -15,10 +15,7 @@ pub struct Vector<'a> {
 pub fn is_passed_over(line: &str) -> bool
     ensures { result ≡ passed_over line.now }
 {
-    match line.as_bytes() {
-        [] | [b'#', ..] => true,
-        _ => false,
-    }
+    line.is_empty() || line.starts_with('#')
 }
 
 // What stands before and behind the first place of the mark, none where it stands nowhere.
