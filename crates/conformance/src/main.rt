@@ -35,8 +35,9 @@ fn compare_lines(rt: &HostRuntime, text: &str) -> anyhow::Result<Tally>
 }
 
 fn run(rt: &HostRuntime) -> anyhow::Result<()> {
-    let text = read_input(rt.alloc(), rt.stdin(), LONGEST)?
-        .context("standard input is longer than 64 MiB")?;
+    let text = read_input(rt.alloc(), rt.stdin(), LONGEST)?.context(
+        "standard input is longer than 64 MiB",
+    )?;
     let tally = compare_lines(rt, text.as_str())?;
     rt.println(tally)?;
     Ok(())

@@ -16,8 +16,9 @@ const LONGEST: u32 = 67_108_864;
 
 // Compares the lines in turn, prints those that differ, and counts both.
 fn run(rt: &HostRuntime) -> anyhow::Result<()> {
-    let text = read_input(rt.alloc(), rt.stdin(), LONGEST)?
-        .context("standard input is longer than 64 MiB")?;
+    let text = read_input(rt.alloc(), rt.stdin(), LONGEST)?.context(
+        "standard input is longer than 64 MiB",
+    )?;
     let mut compared: u64 = 0;
     let mut differ: u64 = 0;
     for (i, line) in text.as_str().lines().enumerate() {

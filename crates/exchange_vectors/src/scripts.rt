@@ -83,9 +83,7 @@ impl FromNumbers for Fate {
 // The first occasions of so many cells, at most 16; of others 0.
 fn read_firsts(numbers: &mut Numbers, cells: u32) -> Result<[u32; 16], Failure> {
     let mut first = [0; 16];
-    let counted = first
-        .get_mut(..cells as usize)
-        .ok_or(Failure::Unreadable)?;
+    let counted = first.get_mut(..cells as usize).ok_or(Failure::Unreadable)?;
     for occasion in counted {
         *occasion = numbers.number()?;
     }

@@ -15,9 +15,7 @@ where
 {
     let mut text = String::new(heap);
     // One byte more than the longest input tells that it is too long.
-    let length = input
-        .take(u64::from(most) + 1)
-        .read_to_string(&mut text)?;
+    let length = input.take(u64::from(most) + 1).read_to_string(&mut text)?;
     if length <= most as usize {
         Ok(Some(text))
     } else {
