@@ -1,3 +1,2 @@
 pub mod Decoding
-pub mod Splitting
 pub mod Texts

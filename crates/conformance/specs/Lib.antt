@@ -1,3 +1,2 @@
 pub mod Hex
-pub mod Vectors
 pub mod Verdicts

@@ -3,7 +3,7 @@ use Rattle.std.specs.Prelude.{ℕ, ◌+◌, Bool, true, false, cond, List, ◌++
 use Rattle.std.specs.Str.{bytes_eq}
 use Rattle.trace.specs.Answers.{line_of}
 use Rattle.conformance.specs.Hex.{written_bytes}
-use Rattle.conformance.specs.Vectors.{Said, passed_over, vector_in}
+use Rattle.outside.specs.Vectors.{Said, passed_over, vector_in}
 use Rattle.conformance.specs.declared.verdicts.Tally.{Tally}
 use Rattle.conformance.specs.declared.verdicts.Verdict.{Verdict}
 use Rattle.conformance.specs.declared.verdicts.Verdict.TheVariants as verdict

@@ -4,27 +4,16 @@
 mod hex;
 #[cfg(test)]
 mod tests;
-mod vectors;
 mod verdicts;
 
 ghost use Rattle.std.specs.Prelude.{◌≤◌, IfOk};
 
-use anyhow::anyhow;
-use std::io::Read;
+use anyhow::Context;
+use outside::read_input;
 use verdicts::{Tally, judge_line};
 
 // The longest input, in bytes.
-const LONGEST: u64 = 67_108_864;
-
-fn read_input(rt: &HostRuntime) -> anyhow::Result<String> {
-    let mut text = String::new(rt.alloc());
-    // One byte more than the longest input tells that it is too long.
-    let length = rt.stdin().take(LONGEST + 1).read_to_string(&mut text)?;
-    if length as u64 > LONGEST {
-        return Err(anyhow!("standard input is longer than 64 MiB"));
-    }
-    Ok(text)
-}
+const LONGEST: u32 = 67_108_864;
 
 // Compares the lines in turn and prints those that differ.
 fn compare_lines(rt: &HostRuntime, text: &str) -> anyhow::Result<Tally>
@@ -43,7 +32,9 @@ fn compare_lines(rt: &HostRuntime, text: &str) -> anyhow::Result<Tally>
 }
 
 fn run(rt: &HostRuntime) -> anyhow::Result<()> {
-    let text = read_input(rt)?;
+    let text = read_input(rt.alloc(), rt.stdin(), LONGEST)?.context(
+        "standard input is longer than 64 MiB",
+    )?;
     let tally = compare_lines(rt, text.as_str())?;
     rt.println(tally)?;
     Ok(())

@@ -1,12 +1,12 @@
 // What comparing a line comes to.
 ghost use Rattle.std.specs.Prelude.{◌≡◌, ◌+◌, ◌^◌, ◌<◌, ◌≤◌, IfOk, Some, string_bytes};
 ghost use Rattle.std.specs.Option.{option_map};
-ghost use Rattle.conformance.specs.Vectors.{said};
+ghost use Rattle.outside.specs.Vectors.{said};
 ghost use Rattle.conformance.specs.Hex.{written_bytes};
 ghost use Rattle.conformance.specs.Verdicts.{compared, trace_outcome, said_outcome, line_outcome, outcome_of, is_compared, is_difference, counted, outcome_text, tally_text};
 
 use crate::hex::read_bytes;
-use crate::vectors::{Vector, is_passed_over, read_vector};
+use outside::{Vector, is_passed_over, read_vector};
 use std::alloc::{AllocError, Global};
 use std::fmt;
 use trace::answers::answer;

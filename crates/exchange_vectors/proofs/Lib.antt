@@ -1,4 +1,2 @@
-pub mod Calling
 pub mod Joining
 pub mod Reading
-pub mod Telling

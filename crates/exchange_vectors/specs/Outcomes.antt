@@ -3,23 +3,17 @@ use Rattle.std.specs.Prelude.{ℕ, cond, List, [], ◌∷◌, ◌++◌, map, len
 use Rattle.harq.specs.declared.refusals.Refusal.{Refusal}
 use Rattle.harq.specs.Refusals.{number_of}
 use Rattle.gnb.specs.declared.counts.Counts.{Counts}
+use Rattle.gnb.specs.declared.grants.GrantEntry.{GrantEntry}
 use Rattle.gnb.specs.declared.marks.Mark.{Mark}
 use Rattle.gnb.specs.declared.marks.Marks.{Marks}
 use Rattle.gnb.specs.declared.marks.Marks.TheVariants.{One, Two}
 use Rattle.gnb.specs.Marks.{mark_number}
-use Rattle.exchange_vectors.specs.declared.exchanges.Way.{Way}
-use Rattle.exchange_vectors.specs.declared.exchanges.Way.TheVariants as way
-use Rattle.exchange_vectors.specs.declared.exchanges.Played.{Played}
+use Rattle.replay.specs.declared.playing.Played.{Played}
 
--- a digit of the sink's text as a digit of the report: an inverter has flipped it
-abbrev pub told_digit : Way → ℕ → ℕ
-told_digit way.Plain d = cond (d == 49) 49 48
-told_digit way.Inverted d = cond (d == 49) 48 49
-
--- what an accepted call answers, or minus the refusal's number
-abbrev pub answer_text : Result ℕ Refusal → List ℕ
-answer_text (Ok n) = decimal n
-answer_text (Err e) = codes "-" ++ decimal (number_of e)
+-- the word of an answer, or minus the refusal's number
+abbrev pub answer_text : {X : Type 0} → (X → List ℕ) → Result X Refusal → List ℕ
+answer_text word (Ok x) = word x
+answer_text word (Err e) = codes "-" ++ decimal (number_of e)
 
 abbrev pub mark_text : Mark → List ℕ
 mark_text m = decimal (mark_number m)
@@ -51,18 +45,25 @@ spaced (w ∷ (v ∷ ws)) = w ++ (codes " " ++ spaced (v ∷ ws))
 
 -- both lengths and the bits of the report
 abbrev pub report_text : Played → List ℕ
-report_text p = spaced (decimal p.exchanged.expected ∷ answer_text p.exchanged.report ∷ or_dash (string_bytes p.digits) ∷ [])
+report_text p = spaced (decimal p.exchanged.expected ∷ answer_text decimal p.exchanged.report ∷ or_dash (string_bytes p.digits) ∷ [])
 
 abbrev pub counts_text : Counts → List ℕ
 counts_text c = spaced (decimal c.granted ∷ decimal c.delivered ∷ decimal c.negative ∷ decimal c.unanswered ∷ [])
+
+-- the marks of the grants, and their DAI fields
+abbrev pub grants_text : List GrantEntry → List ℕ
+grants_text sent = or_dash (joined_by (codes ".") (map marks_text (map (λ (e : GrantEntry). e.marks) sent)))
+
+abbrev pub fields_text : List GrantEntry → List ℕ
+fields_text sent = or_dash (joined_by (codes ".") (map decimal (map (λ (e : GrantEntry). e.field) sent)))
 
 -- the marks of the grants and of the SPS entries, and the DAI fields
 abbrev pub all_marks_text : Played → List ℕ
 all_marks_text p =
     spaced (
-    or_dash (joined_by (codes ".") (map marks_text (vec_items p.marks)))
-    ∷ or_dash (joined_by [] (map mark_text (vec_items p.sps)))
-    ∷ or_dash (joined_by (codes ".") (map decimal (vec_items p.fields)))
+    grants_text (vec_items p.sent)
+    ∷ or_dash (joined_by [] (map mark_text (vec_items p.marks)))
+    ∷ fields_text (vec_items p.sent)
     ∷ [])
 
 abbrev pub rest_text : Played → List ℕ
@@ -71,7 +72,7 @@ rest_text p = spaced (report_text p ∷ counts_text p.exchanged.counts ∷ all_m
 -- in front of them what each call answers
 abbrev pub outcome_text : Played → List ℕ
 outcome_text p =
-    cond (vec_len p.answers == 0) (rest_text p) (spaced (joined_by (codes " ") (map answer_text (vec_items p.answers)) ∷ rest_text p ∷ []))
+    cond (vec_len p.answers == 0) (rest_text p) (spaced (joined_by (codes " ") (map (answer_text decimal) (vec_items p.answers)) ∷ rest_text p ∷ []))
 
 abbrev pub declined_text : Refusal → List ℕ
 declined_text e = codes "declined " ++ decimal (number_of e)

@@ -1,37 +1,28 @@
 // Compares outside vectors of exchanges from standard input with what both cards do.
 #![tactic(auto)]
 
-mod exchanges;
 mod failures;
 mod numbers;
 mod outcomes;
 mod scripts;
 mod vectors;
 
-use anyhow::anyhow;
-use std::io::Read;
+use anyhow::Context;
+use outside::{is_passed_over, read_input};
 use vectors::is_as_said;
 
 // The longest input, in bytes.
-const LONGEST: u64 = 67_108_864;
-
-fn read_input(rt: &HostRuntime) -> anyhow::Result<String> {
-    let mut text = String::new(rt.alloc());
-    // One byte more than the longest input tells that it is too long.
-    let length = rt.stdin().take(LONGEST + 1).read_to_string(&mut text)?;
-    if length as u64 > LONGEST {
-        return Err(anyhow!("standard input is longer than 64 MiB"));
-    }
-    Ok(text)
-}
+const LONGEST: u32 = 67_108_864;
 
 // Compares the lines in turn, prints those that differ, and counts both.
 fn run(rt: &HostRuntime) -> anyhow::Result<()> {
-    let text = read_input(rt)?;
+    let text = read_input(rt.alloc(), rt.stdin(), LONGEST)?.context(
+        "standard input is longer than 64 MiB",
+    )?;
     let mut compared: u64 = 0;
     let mut differ: u64 = 0;
     for (i, line) in text.as_str().lines().enumerate() {
-        if line.is_empty() || line.starts_with("#") {
+        if is_passed_over(line) {
             continue;
         }
         compared = compared.saturating_add(1);

@@ -27,13 +27,10 @@ fn append_digit(number: u32, digit: u32) -> Option<u32>
 fn with_digit(number: Option<u32>, c: u8) -> Option<u32>
     ensures { result ≡ with_digit number c }
 {
-    match decimal_value(c) {
-        Some(digit) => append_digit(number.unwrap_or(0), digit),
-        None => None,
-    }
+    append_digit(number.unwrap_or(0), decimal_value(c)?)
 }
 
-// The numbers of an ASCII text, none where it is not such.
+// The numbers of an ASCII text, none where it is not such. One pass over the bytes: `parse` would read a `+` too, which is refused here.
 pub fn read_numbers(heap: Global, text: &[u8]) -> Result<Option<Vec<u32>>, AllocError>
     ensures { IfOk result (λ o. option_map vec_items o ≡ numbers_in text.now) }
 {
@@ -91,10 +88,7 @@ impl<'a> Numbers<'a> {
 
     // A number below 256.
     pub fn byte(&mut self) -> Result<u8, Failure> {
-        match u8::try_from(self.number()?) {
-            Ok(b) => Ok(b),
-            Err(_) => Err(Failure::Unreadable),
-        }
+        u8::try_from(self.number()?).map_err(|_| Failure::Unreadable)
     }
 
     // 0 or 1.

@@ -1,13 +1,14 @@
 // How the outcome of an exchange is told.
 ghost use Rattle.std.specs.Prelude.{◌≡◌, ℕ, List, ◌++◌, map, IfOk, string_bytes, decimal, OnOk};
-ghost use Rattle.exchange_vectors.specs.Outcomes.{answer_text, mark_text, marks_text, each_behind, joined_by, or_dash, counts_text, report_text, all_marks_text, rest_text, outcome_text, declined_text};
+ghost use Rattle.gnb.specs.declared.grants.GrantEntry.{GrantEntry};
+ghost use Rattle.exchange_vectors.specs.Outcomes.{answer_text, mark_text, marks_text, each_behind, joined_by, or_dash, counts_text, report_text, grants_text, fields_text, all_marks_text, rest_text, outcome_text, declined_text};
 
-use crate::exchanges::Played;
-use gnb::{Counts, Mark, Marks};
+use gnb::{Counts, GrantEntry, Mark, Marks};
 use harq::Refusal;
+use replay::Played;
 use std::alloc::{AllocError, Global};
 
-// What has a word in the line of an outcome.
+// What has a word in the line of an outcome. `Display` of numbers, results and marks is not this program's.
 pub trait Worded {
     ghost worded: { Self → List ℕ };
 
@@ -24,13 +25,22 @@ impl Worded for u32 {
     }
 }
 
-// What an accepted call answers, or minus the refusal's number.
-impl Worded for Result<u32, Refusal> {
-    ghost worded = { answer_text };
+impl Worded for usize {
+    ghost worded = { decimal };
 
     fn word(&self, heap: Global) -> Result<String, AllocError> {
-        match *self {
-            Ok(numbered) => format!(in heap; "{numbered}"),
+        let number = *self;
+        format!(in heap; "{number}")
+    }
+}
+
+// What is answered, or minus the refusal's number.
+impl<T: Worded> Worded for Result<T, Refusal> {
+    ghost worded = { answer_text T.Worded.worded };
+
+    fn word(&self, heap: Global) -> Result<String, AllocError> {
+        match self {
+            Ok(answer) => answer.word(heap),
             Err(refusal) => {
                 let number = refusal.number();
                 format!(in heap; "-{number}")
@@ -43,8 +53,7 @@ impl Worded for Mark {
     ghost worded = { mark_text };
 
     fn word(&self, heap: Global) -> Result<String, AllocError> {
-        let number = self.number();
-        format!(in heap; "{number}")
+        self.number().word(heap)
     }
 }
 
@@ -114,19 +123,6 @@ fn joined_or_dash<W: Worded>(heap: Global, list: &[W], between: &str) -> Result<
     or_dash(heap, text.as_str())
 }
 
-// The length of a report, or minus the number of the refusal.
-fn length_text(heap: Global, report: Result<usize, Refusal>) -> Result<String, AllocError>
-    ensures { IfOk result (λ s. string_bytes s ≡ answer_text report) }
-{
-    match report {
-        Ok(length) => format!(in heap; "{length}"),
-        Err(refusal) => {
-            let number = refusal.number();
-            format!(in heap; "-{number}")
-        }
-    }
-}
-
 fn counts_text(heap: Global, counts: Counts) -> Result<String, AllocError>
     ensures { IfOk result (λ s. string_bytes s ≡ counts_text counts) }
 {
@@ -144,18 +140,45 @@ fn report_text(heap: Global, played: &Played) -> Result<String, AllocError>
     ensures { IfOk result (λ s. string_bytes s ≡ report_text played.now) }
 {
     let expected = played.exchanged.expected;
-    let length = length_text(heap, played.exchanged.report)?;
+    let length = played.exchanged.report.word(heap)?;
     let bits = or_dash(heap, played.digits.as_str())?;
     format!(in heap; "{expected} {length} {bits}")
+}
+
+fn marks_of(heap: Global, sent: &[GrantEntry]) -> Result<Vec<Marks>, AllocError>
+    ensures { IfOk result (λ v. v.items ≡ map (λ (e : GrantEntry). e.marks) sent.now) }
+{
+    sent.iter().map(|e| e.marks).collect(heap)
+}
+
+fn fields_of(heap: Global, sent: &[GrantEntry]) -> Result<Vec<u32>, AllocError>
+    ensures { IfOk result (λ v. v.items ≡ map (λ (e : GrantEntry). e.field) sent.now) }
+{
+    sent.iter().map(|e| e.field).collect(heap)
+}
+
+fn grants_text(heap: Global, sent: &[GrantEntry]) -> Result<String, AllocError>
+    ensures { IfOk result (λ s. string_bytes s ≡ grants_text sent.now) }
+{
+    let marks = marks_of(heap, sent)?;
+    joined_or_dash(heap, marks.as_slice(), ".")
+}
+
+fn fields_text(heap: Global, sent: &[GrantEntry]) -> Result<String, AllocError>
+    ensures { IfOk result (λ s. string_bytes s ≡ fields_text sent.now) }
+{
+    let fields = fields_of(heap, sent)?;
+    joined_or_dash(heap, fields.as_slice(), ".")
 }
 
 // The marks of the grants and of the SPS entries, and the DAI fields.
 fn marks_text(heap: Global, played: &Played) -> Result<String, AllocError>
     ensures { IfOk result (λ s. string_bytes s ≡ all_marks_text played.now) }
 {
-    let marks = joined_or_dash(heap, played.marks.as_slice(), ".")?;
-    let sps = joined_or_dash(heap, played.sps.as_slice(), "")?;
-    let fields = joined_or_dash(heap, played.fields.as_slice(), ".")?;
+    let sent = played.sent.as_slice();
+    let marks = grants_text(heap, sent)?;
+    let sps = joined_or_dash(heap, played.marks.as_slice(), "")?;
+    let fields = fields_text(heap, sent)?;
     format!(in heap; "{marks} {sps} {fields}")
 }
 

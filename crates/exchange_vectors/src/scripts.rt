@@ -4,29 +4,12 @@ use crate::numbers::{Numbers, read_numbers};
 use gnb::Grant;
 use harq::{Config, SpsEntry};
 use link::Fate;
+use replay::{Request, Script};
 use std::alloc::Global;
 use ue::SpsOutcome;
 
 // The longest grant table.
 const LONGEST_TABLE: u32 = 65_536;
-
-// A numbering call, with its grants.
-#[derive(Drop)]
-pub struct Asked {
-    pub occasion: u32,
-    pub grants: Vec<Grant>,
-}
-
-#[derive(Drop)]
-pub struct Script {
-    pub config: Config,
-    pub sps: Vec<SpsOutcome>,
-    // The length of the grant table.
-    pub table: usize,
-    pub calls: Vec<Asked>,
-    // Of the assignments sent, in order.
-    pub fates: Vec<Fate>,
-}
 
 // What a few numbers stand for.
 pub trait FromNumbers {
@@ -77,11 +60,11 @@ impl FromNumbers for Grant {
     }
 }
 
-impl FromNumbers for Asked {
-    fn read(heap: Global, numbers: &mut Numbers) -> Result<Asked, Failure> {
+impl FromNumbers for Request {
+    fn read(heap: Global, numbers: &mut Numbers) -> Result<Request, Failure> {
         let occasion = numbers.number()?;
         let grants = read_list(heap, numbers)?;
-        Ok(Asked { occasion, grants })
+        Ok(Request { occasion, grants })
     }
 }
 
@@ -100,11 +83,9 @@ impl FromNumbers for Fate {
 // The first occasions of so many cells, at most 16; of others 0.
 fn read_firsts(numbers: &mut Numbers, cells: u32) -> Result<[u32; 16], Failure> {
     let mut first = [0; 16];
-    if cells > 16 {
-        return Err(Failure::Unreadable);
-    }
-    for cell in 0..cells as usize {
-        first[cell] = numbers.number()?;
+    let counted = first.get_mut(..cells as usize).ok_or(Failure::Unreadable)?;
+    for occasion in counted {
+        *occasion = numbers.number()?;
     }
     Ok(first)
 }
@@ -139,13 +120,13 @@ impl FromNumbers for Script {
         let config = Config::read(heap, numbers)?;
         let sps = read_list(heap, numbers)?;
         let table = read_length(numbers)?;
-        let calls = read_list(heap, numbers)?;
+        let requests = read_list(heap, numbers)?;
         let fates = read_list(heap, numbers)?;
         Ok(Script {
             config,
             sps,
             table,
-            calls,
+            requests,
             fates,
         })
     }
@@ -153,9 +134,7 @@ impl FromNumbers for Script {
 
 // The script that a text says with all its numbers.
 pub fn read_script(heap: Global, text: &str) -> Result<Script, Failure> {
-    let Some(all) = read_numbers(heap, text.as_bytes())? else {
-        return Err(Failure::Unreadable);
-    };
+    let all = read_numbers(heap, text.as_bytes())?.ok_or(Failure::Unreadable)?;
     let mut numbers = Numbers::new(all.as_slice());
     let script = Script::read(heap, &mut numbers)?;
     if !numbers.is_empty() {

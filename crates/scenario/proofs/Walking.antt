@@ -1,13 +1,12 @@
--- The longest run of losses and the first total, number by number. Assumes nothing.
-use Rattle.std.proofs.Common.{◌≡◌, ℕ, zero, suc, ◌+◌, ◌-◌, ◌<◌, ◌≤◌, max, Bool, true, false, cond, ◌⊎◌, List, [], ◌∷◌, length, get_or, drop, Some, None, sym, refl, ap, ◌∙◌, subst, inl, inr, ⊎_elim, arith}
-use Rattle.std.proofs.lemmas.List.{at_drop_more, at_drop_all}
+-- The longest run of losses, number by number. Assumes nothing.
+use Rattle.std.proofs.Common.{◌≡◌, ℕ, zero, suc, ◌+◌, ◌-◌, ◌<◌, ◌≤◌, max, Bool, true, false, cond, ◌⊎◌, List, [], ◌∷◌, map, length, get_or, drop, sym, refl, ap, ◌∙◌, subst, inl, inr, ⊎_elim, arith}
+use Rattle.std.proofs.lemmas.List.{at_drop_more, at_drop_all, get_or-map, length-map}
 use Rattle.std.proofs.lemmas.Bool.{cases_lt, lt-ltb, le-ltb}
-use Rattle.harq.specs.declared.configs.Config.{Config}
 use Rattle.harq.specs.Losses.{LostRun, longest_after, longest}
-use Rattle.gnb.specs.declared.grants.GrantEntry.{GrantEntry}
 use Rattle.scenario.specs.declared.losses.Run.{Run}
+use Rattle.scenario.specs.declared.playing.Sent.{Sent}
+use Rattle.scenario.specs.Arrived.{arrived}
 use Rattle.scenario.specs.Runs.{run_after, longer}
-use Rattle.scenario.specs.Totals.{brings_total, first_total}
 
 lost_le : (lost : ℕ) (bs : List Bool) → lost ≤ longest_after lost bs
 lost_le lost [] = omega arith
@@ -25,7 +24,7 @@ pub record Walked (arrived : List Bool) (i : ℕ) (best run : Run) : Type 0 wher
 no_run : (arrived : List Bool) (start : ℕ) → LostRun arrived start 0
 no_run arrived start k above upto = absurd (omega arith)
 
-pub walked_first : (arrived : List Bool) → Walked arrived 0 (record { before = 0; long = 0 }) (record { before = 0; long = 0 })
+walked_first : (arrived : List Bool) → Walked arrived 0 (record { before = 0; long = 0 }) (record { before = 0; long = 0 })
 walked_first arrived = record {
   all = omega arith;
   here = refl;
@@ -33,6 +32,9 @@ walked_first arrived = record {
   best_lost = no_run arrived 0;
   less = omega arith;
 }
+
+pub walked_start : (arrived : List Bool) (best run : Run) → best ≡ record { before = 0; long = 0 } → run ≡ record { before = 0; long = 0 } → Walked arrived 0 best run
+walked_start arrived best run e f = rw (e, f) (walked_first arrived)
 
 any_default : (bs : List Bool) (i : ℕ) → i < length bs → get_or bs i true ≡ get_or bs i false
 any_default [] i lt = absurd (omega arith)
@@ -83,17 +85,12 @@ module _ (arrived : List Bool) (i : ℕ) (best run : Run) (lt : i < length arriv
 pub walked_last : (arrived : List Bool) (i : ℕ) (best run : Run) → length arrived ≤ i → Walked arrived i best run → best.long ≡ longest arrived
 walked_last arrived i best run end w = omega (arith, w.all, w.less, at_drop_all (longest_after run.long) arrived i end)
 
-module _ (g : Config) (occasion : ℕ) (es : List GrantEntry) (bs : List Bool) where
-  pub total_next : (i : ℕ) (d : GrantEntry) → i < length es → i < length bs →
-      first_total g occasion (drop i es) (drop i bs) ≡ cond (brings_total g occasion (get_or es i d) (get_or bs i false)) (Some (get_or es i d).number) (first_total g occasion (drop (i + 1) es) (drop (i + 1) bs))
-  total_next i d le lb =
-      at_drop_more (λ (l : List GrantEntry). first_total g occasion l (drop i bs)) es i d le
-      ∙ at_drop_more (first_total g occasion (get_or es i d ∷ drop (i + 1) es)) bs i false lb
+-- one assignment more
+pub walked_more : (sent : List Sent) (i : ℕ) (d : Sent) (best run next longest-yet : Run) → i < length sent → Walked (map arrived sent) i best run →
+    next ≡ run_after run (get_or sent i d).fate.arrived → longest-yet ≡ longer best next → Walked (map arrived sent) (i + 1) longest-yet next
+walked_more sent i d best run next longest-yet lt w is chosen =
+    rw (chosen, is)
+    (walked_next (map arrived sent) i best run (omega (arith, lt, length-map sent arrived)) w (get_or sent i d).fate.arrived (get_or-map arrived sent i d false lt))
 
-  without : (l : List GrantEntry) → first_total g occasion l [] ≡ None
-  without [] = refl
-  without (e ∷ l) = refl
-
-  pub total_last : (i : ℕ) → (length es ≤ i) ⊎ (length bs ≤ i) → first_total g occasion (drop i es) (drop i bs) ≡ None
-  total_last i (inl end) = at_drop_all (λ (l : List GrantEntry). first_total g occasion l (drop i bs)) es i end
-  total_last i (inr end) = at_drop_all (first_total g occasion (drop i es)) bs i end ∙ without (drop i es)
+pub walked_all : (sent : List Sent) (i : ℕ) (best run : Run) → length sent ≤ i → Walked (map arrived sent) i best run → best.long ≡ longest (map arrived sent)
+walked_all sent i best run end w = walked_last (map arrived sent) i best run (omega (arith, end, length-map sent arrived)) w

@@ -1,16 +1,14 @@
--- What was sent, and which of it arrived. Assumes nothing.
-use Rattle.std.specs.Prelude.{ℕ, Bool, List, [], ◌∷◌, Ok, Err, Result}
-use Rattle.harq.specs.declared.refusals.Refusal.{Refusal}
+-- What was sent, and what became of it. Assumes nothing.
+use Rattle.std.specs.Prelude.{Bool, List}
 use Rattle.gnb.specs.declared.grants.GrantEntry.{GrantEntry}
 use Rattle.agreement.specs.declared.fates.Fate.{Fate}
 use Rattle.agreement.specs.Fates.{fate_of}
+use Rattle.scenario.specs.declared.playing.Sent.{Sent}
 
--- the assignment of an entry arrives
-abbrev pub arrives : List Fate → GrantEntry → Bool
-arrives fates e = (fate_of fates e.number).arrived
+-- an entry with the fate of its assignment
+abbrev pub with_fate : List Fate → GrantEntry → Sent
+with_fate fates e = record { entry = e; fate = fate_of fates e.number }
 
--- how many are numbered after the last accepted call, where n were before
-abbrev pub numbered_from : ℕ → List (Result ℕ Refusal) → ℕ
-numbered_from n [] = n
-numbered_from n (Ok m ∷ rs) = numbered_from m rs
-numbered_from n (Err e ∷ rs) = numbered_from n rs
+-- the assignment arrives
+abbrev pub arrived : Sent → Bool
+arrived s = s.fate.arrived

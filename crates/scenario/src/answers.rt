@@ -8,13 +8,10 @@ use std::alloc::{AllocError, Global};
 
 // The name that a heading gives, none where a line is no heading.
 fn heading<'a>(line: &Line<'a>) -> Option<&'a str> {
-    match line.words.first().copied() {
-        Some("scenario") => match line.text.trim().strip_prefix("scenario") {
-            Some(name) => Some(name.trim()),
-            None => None,
-        },
-        _ => None,
+    if *line.words.first()? != "scenario" {
+        return None;
     }
+    Some(line.text.trim().strip_prefix("scenario")?.trim())
 }
 
 // Reads the scenarios in turn, up to the first mistake.
@@ -48,10 +45,9 @@ fn tell_each(heap: Global, scenarios: Vec<Scenario>, out: &mut String) -> Result
         if !out.is_empty() {
             out.push_str("\n")?;
         }
-        let played = play(heap, &scenario)?;
-        let story = Story { scenario, played };
-        let told = format!(in heap; "{story}")?;
-        out.push_str(told.as_str())?;
+        let outcome = play(heap, &scenario.script)?;
+        let story = Story { scenario, outcome };
+        write!(out, "{story}")?;
     }
     Ok(())
 }
@@ -64,13 +60,12 @@ pub fn answer(heap: Global, text: &str) -> Result<String, AllocError> {
     tell_each(heap, scenarios, &mut out)?;
     match read {
         Ok(()) => {}
-        Err(Failure::Memory) => return Err(AllocError),
+        Err(Failure::Memory(failure)) => return Err(failure),
         Err(failure) => {
             if !out.is_empty() {
                 out.push_str("\n")?;
             }
-            let told = format!(in heap; "{failure}\n")?;
-            out.push_str(told.as_str())?;
+            writeln!(out, "{failure}")?;
         }
     }
     Ok(out)

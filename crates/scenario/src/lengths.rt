@@ -1,14 +1,13 @@
 // Why the lengths of report and expectation agree or differ.
 use crate::losses::{first_total, longest_run, runs_short};
-use crate::playing::Played;
-use gnb::GrantEntry;
+use crate::playing::{Outcome, Sent};
 use harq::Config;
 use link::Exchanged;
 use std::fmt;
 
 // The longest run of losses beside the counter's span.
-fn tell_run<W: fmt::Write>(f: &mut fmt::Formatter<W>, span: u32, arrived: &[bool]) -> fmt::Result {
-    let run = longest_run(arrived);
+fn tell_run<W: fmt::Write>(f: &mut fmt::Formatter<W>, span: u32, sent: &[Sent]) -> fmt::Result {
+    let run = longest_run(sent);
     if run.long == 0 {
         return f.write_str("  nothing lost\n");
     }
@@ -23,7 +22,7 @@ fn tell_run<W: fmt::Write>(f: &mut fmt::Formatter<W>, span: u32, arrived: &[bool
             "  longest run of losses {long}, numbers {first} to {last}: "
         )?;
     }
-    if runs_short(span, arrived) {
+    if runs_short(span, sent) {
         writeln!(f, "below the span {span}, no turn of the counter is missed")
     } else {
         writeln!(
@@ -37,17 +36,15 @@ fn tell_run<W: fmt::Write>(f: &mut fmt::Formatter<W>, span: u32, arrived: &[bool
 fn tell_end<W: fmt::Write>(
     f: &mut fmt::Formatter<W>,
     config: &Config,
-    last: &GrantEntry,
-    last_arrived: bool,
-    played: &Played,
+    last: &Sent,
+    sent: &[Sent],
 ) -> fmt::Result {
-    let number = last.number;
-    let occasion = last.occasion;
-    if last_arrived {
+    let number = last.entry.number;
+    let occasion = last.entry.occasion;
+    if last.fate.arrived {
         return writeln!(f, "  end known: number {number}, the last, arrived");
     }
-    let sent = played.sent.as_slice();
-    match first_total(config, occasion, sent, played.arrived.as_slice()) {
+    match first_total(config, occasion, sent) {
         Some(with) => writeln!(
             f,
             "  end known: number {number}, the last, is lost, and number {with} brought the total of occasion {occasion}"
@@ -63,23 +60,27 @@ fn tell_end<W: fmt::Write>(
 pub fn tell_lengths<W: fmt::Write>(
     f: &mut fmt::Formatter<W>,
     config: &Config,
-    played: &Played,
-    exchanged: &Exchanged,
+    outcome: &Outcome,
 ) -> fmt::Result {
     f.write_str("\nlengths\n")?;
-    let expected = exchanged.expected;
-    match exchanged.report {
+    let Exchanged {
+        expected,
+        report,
+        ..
+    } = outcome.exchanged;
+    match report {
         Ok(length) if length == expected => {
             writeln!(f, "  expected {expected}, reported {length}: equal")?
         }
         Ok(length) => writeln!(f, "  expected {expected}, reported {length}: different")?,
         Err(_) => writeln!(f, "  expected {expected}, no report")?,
     }
-    match (played.sent.last(), played.arrived.last()) {
-        (Some(last), Some(arrived)) => {
-            tell_run(f, config.span(), played.arrived.as_slice())?;
-            tell_end(f, config, last, *arrived, played)
+    let sent = outcome.sent.as_slice();
+    match sent.last() {
+        Some(last) => {
+            tell_run(f, config.span(), sent)?;
+            tell_end(f, config, last, sent)
         }
-        _ => f.write_str("  nothing sent\n"),
+        None => f.write_str("  nothing sent\n"),
     }
 }

@@ -13,10 +13,7 @@ pub struct Line<'a> {
 
 // What stands before a comment.
 fn without_comment(text: &str) -> &str {
-    match text.split_once('#') {
-        Some((before, _)) => before,
-        None => text,
-    }
+    text.split_once('#').map_or(text, |(before, _)| before)
 }
 
 // The number that digits write, none where a word is not such or the number is too large.
@@ -30,35 +27,27 @@ fn number_in(word: &str) -> Option<u32> {
 impl<'a> Line<'a> {
     pub fn read(heap: Global, number: usize, line: &'a str) -> Result<Line<'a>, AllocError> {
         let text = without_comment(line);
-        let mut words = Vec::new(heap);
-        for word in text.split_whitespace() {
-            words.push(word)?;
-        }
         Ok(Line {
             number,
             text,
-            words,
+            words: text.split_whitespace().collect(heap)?,
         })
     }
 
     // The word at a place, from 0.
     pub fn word(&self, at: usize, expected: &'static str) -> Result<&'a str, Failure<'a>> {
-        match self.words.get(at).copied() {
-            Some(word) => Ok(word),
-            None => Err(Failure::Ended {
-                line: self.number,
-                expected,
-            }),
-        }
+        self.words.get(at).copied().ok_or(Failure::Ended {
+            line: self.number,
+            expected,
+        })
     }
 
     // The number at a place, at most `most`.
     pub fn number(&self, at: usize, most: u32, expected: &'static str) -> Result<u32, Failure<'a>> {
         let found = self.word(at, expected)?;
-        match number_in(found) {
-            Some(number) if number <= most => Ok(number),
-            _ => Err(self.other(expected, found)),
-        }
+        number_in(found)
+            .filter(|number| *number <= most)
+            .ok_or(self.other(expected, found))
     }
 
     // The numbers that a word writes as one number or as a range, both ends among them.

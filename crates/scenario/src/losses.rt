@@ -1,16 +1,17 @@
 // Runs of losses, and totals that arrived.
-ghost use Rattle.std.specs.Prelude.{◌≡◌, ◌+◌, ◌^◌, ◌<◌, true, ◌↔◌};
+ghost use Rattle.std.specs.Prelude.{◌≡◌, ◌+◌, ◌^◌, ◌<◌, true, map, ◌↔◌};
 ghost use Rattle.harq.specs.Configs.{carries_total};
 ghost use Rattle.harq.specs.Losses.{longest, LostRun, RunsShort};
+ghost use Rattle.scenario.specs.Arrived.{arrived};
 ghost use Rattle.scenario.specs.Runs.{run_after, longer};
 ghost use Rattle.scenario.specs.Totals.{brings_total, first_total};
 
+use crate::playing::Sent;
 use dai::Layout;
-use gnb::GrantEntry;
 use harq::Config;
 
 // The numbers before + 1 up to before + long.
-#[derive(Clone, Copy)]
+#[derive(Clone, Copy, Default)]
 pub struct Run {
     pub before: usize,
     pub long: usize,
@@ -43,58 +44,46 @@ impl Run {
     }
 }
 
-// The first of the longest runs of losses, where each number has arrived or not.
-pub fn longest_run(arrived: &[bool]) -> Run
-    ensures long { result.long ≡ longest arrived.now }
-    ensures lost { LostRun arrived.now result.before result.long }
+// The first of the longest runs of losses.
+pub fn longest_run(sent: &[Sent]) -> Run
+    ensures long { result.long ≡ longest (map arrived sent.now) }
+    ensures lost { LostRun (map arrived sent.now) result.before result.long }
 {
-    let mut best = Run { before: 0, long: 0 };
-    let mut run = best;
-    for here in arrived {
-        run = run.after(*here);
+    let mut best = Run::default();
+    let mut run = Run::default();
+    for s in sent {
+        run = run.after(s.fate.arrived);
         best = best.or_longer(run);
     }
     best
 }
 
 // Whether every run of losses is shorter than the counter's span.
-pub fn runs_short(span: u32, arrived: &[bool]) -> bool
-    ensures { (result ≡ true) ↔ RunsShort span arrived.now }
+pub fn runs_short(span: u32, sent: &[Sent]) -> bool
+    ensures { (result ≡ true) ↔ RunsShort span (map arrived sent.now) }
 {
-    longest_run(arrived).long < span as usize
+    longest_run(sent).long < span as usize
 }
 
 // Whether assignments of a format carry a total.
 fn carries_total(config: &Config, format: u32) -> bool
     ensures { result ≡ carries_total config.now format }
 {
-    match config.layout(format) {
-        Some(Layout::Four) => true,
-        _ => false,
-    }
+    config.layout(format) == Some(Layout::Four)
 }
 
 // Whether an assignment arrived with a total of an occasion.
-fn brings_total(config: &Config, occasion: u32, e: &GrantEntry, arrived: bool) -> bool
-    ensures { result ≡ brings_total config.now occasion e.now arrived }
+fn brings_total(config: &Config, occasion: u32, s: &Sent) -> bool
+    ensures { result ≡ brings_total config.now occasion s.now }
 {
-    arrived && (e.occasion == occasion && carries_total(config, e.format))
+    s.fate.arrived && (s.entry.occasion == occasion && carries_total(config, s.entry.format))
 }
 
 // The number of the first assignment that arrived with a total of an occasion, if there is one.
-pub fn first_total(
-    config: &Config,
-    occasion: u32,
-    sent: &[GrantEntry],
-    arrived: &[bool],
-) -> Option<u32>
-    ensures { result ≡ first_total config.now occasion sent.now arrived.now }
+pub fn first_total(config: &Config, occasion: u32, sent: &[Sent]) -> Option<u32>
+    ensures { result ≡ first_total config.now occasion sent.now }
 {
-    let count = sent.len().min(arrived.len());
-    for i in 0..count {
-        if brings_total(config, occasion, &sent[i], arrived[i]) {
-            return Some(sent[i].number);
-        }
-    }
-    None
+    sent.iter()
+        .find(|s| brings_total(config, occasion, *s))
+        .map(|s| s.entry.number)
 }

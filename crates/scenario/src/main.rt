@@ -12,19 +12,16 @@ mod telling;
 mod words;
 
 use answers::answer;
-use std::io::Read;
+use outside::read_input;
 
 // The longest input, in bytes.
-const LONGEST: u64 = 65_536;
+const LONGEST: u32 = 65_536;
 
 fn run(rt: &HostRuntime) -> anyhow::Result<()> {
-    let mut text = String::new(rt.alloc());
-    // One byte more than the longest input tells that it is too long.
-    let length = rt.stdin().take(LONGEST + 1).read_to_string(&mut text)?;
-    if length as u64 > LONGEST {
+    let Some(text) = read_input(rt.alloc(), rt.stdin(), LONGEST)? else {
         rt.println("the input is longer than 65536 bytes")?;
         return Ok(());
-    }
+    };
     rt.print(answer(rt.alloc(), text.as_str())?)?;
     Ok(())
 }

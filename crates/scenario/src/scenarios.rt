@@ -3,7 +3,8 @@ use crate::failures::Failure;
 use crate::lines::Line;
 use agreement::Fate;
 use gnb::Grant;
-use harq::{Config, SpsEntry};
+use harq::{Config, Format, SpsEntry};
+use replay::{Request, Script};
 use std::alloc::{AllocError, Global};
 use ue::SpsOutcome;
 
@@ -16,23 +17,10 @@ const DECODED: Fate = Fate {
     outcomes: [1; 2],
 };
 
-// A numbering call that owns its grants.
-#[derive(Drop)]
-pub struct Request {
-    pub occasion: u32,
-    pub grants: Vec<Grant>,
-}
-
 #[derive(Drop)]
 pub struct Scenario {
     pub name: String,
-    pub config: Config,
-    // How many entries the grant table has.
-    pub entries: u32,
-    pub sps: Vec<SpsOutcome>,
-    pub requests: Vec<Request>,
-    // The fates of the numbers 1, 2, ..
-    pub fates: Vec<Fate>,
+    pub script: Script,
 }
 
 // A scenario as far as its lines have been read.
@@ -70,26 +58,16 @@ fn set<'a>(
     line.end(2)
 }
 
-// A setting that a scenario must have.
-fn needed<'a>(setting: Option<u32>, line: usize, name: &'static str) -> Result<u32, Failure<'a>> {
-    match setting {
-        Some(value) => Ok(value),
-        None => Err(Failure::Unset {
-            line,
-            setting: name,
-        }),
-    }
-}
-
 // The format that a word writes.
 fn format_of<'a>(line: &Line<'a>, at: usize) -> Result<u32, Failure<'a>> {
     let expected = "a format, 1_0, 1_1 or 1_2";
-    match line.word(at, expected)? {
-        "1_0" => Ok(0),
-        "1_1" => Ok(1),
-        "1_2" => Ok(2),
-        found => Err(line.other(expected, found)),
-    }
+    let format = match line.word(at, expected)? {
+        "1_0" => Format::OneZero,
+        "1_1" => Format::OneOne,
+        "1_2" => Format::OneTwo,
+        found => return Err(line.other(expected, found)),
+    };
+    Ok(format.into())
 }
 
 // The outcome at a place of the line.
@@ -129,11 +107,9 @@ fn grant_of<'a>(line: &Line<'a>) -> Result<Grant, Failure<'a>> {
 // The first counted occasions, one for each cell that has one.
 fn firsts_of<'a>(line: &Line<'a>) -> Result<[u32; 16], Failure<'a>> {
     let mut first = [0; 16];
-    first[0] = line.number(1, u32::MAX, "an occasion")?;
-    for cell in 1..16 {
-        if cell + 1 < line.words.len() {
-            first[cell] = line.number(cell + 1, u32::MAX, "an occasion")?;
-        }
+    // At least one is expected.
+    for (at, occasion) in (1..line.words.len().max(2)).zip(first.iter_mut()) {
+        *occasion = line.number(at, u32::MAX, "an occasion")?;
     }
     line.end(17)?;
     Ok(first)
@@ -141,11 +117,9 @@ fn firsts_of<'a>(line: &Line<'a>) -> Result<[u32; 16], Failure<'a>> {
 
 // Loses the numbers from `from` to `to`.
 fn lose(fates: &mut [Fate], from: u32, to: u32) {
-    for i in 0..fates.len() {
-        let number = i + 1;
-        if from as usize <= number && number <= to as usize {
-            fates[i].arrived = false;
-        }
+    let before = (from as usize).saturating_sub(1);
+    for fate in fates.iter_mut().take(to as usize).skip(before) {
+        fate.arrived = false;
     }
 }
 
@@ -204,9 +178,10 @@ impl<'a> Draft<'a> {
 
     fn take_grant(&mut self, line: &Line<'a>) -> Result<(), Failure<'a>> {
         let grant = grant_of(line)?;
-        let Some(request) = self.requests.last_mut() else {
-            return Err(Failure::NoCall { line: line.number });
-        };
+        let request = self
+            .requests
+            .last_mut()
+            .ok_or(Failure::NoCall { line: line.number })?;
         request.grants.push(grant)?;
         Ok(())
     }
@@ -233,9 +208,7 @@ impl<'a> Draft<'a> {
         };
         line.end(4)?;
         let at = (number as usize).wrapping_sub(1);
-        let Some(fate) = self.fates.get_mut(at) else {
-            return Err(line.other(expected, found));
-        };
+        let fate = self.fates.get_mut(at).ok_or(line.other(expected, found))?;
         fate.outcomes = [first, second];
         Ok(())
     }
@@ -292,14 +265,13 @@ impl<'a> Draft<'a> {
 
     // The scenario whose last line has been read.
     pub fn finish(self, heap: Global, line: usize) -> Result<Scenario, Failure<'a>> {
-        let cells = needed(self.cells, line, "cells")?;
-        let occasions = needed(self.occasions, line, "occasions")?;
+        let needed = |setting| Failure::Unset { line, setting };
         let config = Config {
-            cells,
-            occasions,
+            cells: self.cells.ok_or(needed("cells"))?,
+            occasions: self.occasions.ok_or(needed("occasions"))?,
             width: self.width.unwrap_or(0),
             mode: self.mode.unwrap_or(0),
-            first: self.first.unwrap_or([0; 16]),
+            first: self.first.unwrap_or_default(),
         };
         let Draft {
             name,
@@ -311,11 +283,13 @@ impl<'a> Draft<'a> {
         } = self;
         Ok(Scenario {
             name: String::from_str(heap, name)?,
-            config,
-            entries: entries.unwrap_or(MOST),
-            sps,
-            requests,
-            fates,
+            script: Script {
+                config,
+                sps,
+                table: entries.unwrap_or(MOST) as usize,
+                requests,
+                fates,
+            },
         })
     }
 }

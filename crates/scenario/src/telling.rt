@@ -1,20 +1,20 @@
 // What happened in a scenario, section by section.
 use crate::lengths::tell_lengths;
-use crate::playing::Played;
-use crate::scenarios::{Request, Scenario};
-use crate::words::{format_text, mark_text, mode_text, refusal_text};
-use agreement::Fate;
+use crate::playing::{Outcome, Sent};
+use crate::scenarios::Scenario;
+use crate::words::refusal_text;
 use gnb::{Counts, GrantEntry, Mark, Marks};
-use harq::{Config, Refusal};
-use link::Exchanged;
+use harq::{Config, Format, Mode, Refusal, SpsEntry};
+use link::Fate;
+use replay::{Request, Script};
 use std::fmt;
 use ue::SpsOutcome;
 
-// A scenario with what came of it.
+// A scenario with what came of it, or why opening was declined.
 #[derive(Drop)]
 pub struct Story {
     pub scenario: Scenario,
-    pub played: Played,
+    pub outcome: Result<Outcome, Refusal>,
 }
 
 // The name, if there is one, and what both cards are set to.
@@ -28,16 +28,23 @@ fn tell_heading<W: fmt::Write>(
     } else {
         writeln!(f, "scenario {name}")?;
     }
-    let cells = config.cells;
-    let occasions = config.occasions;
-    let width = config.width;
-    let mode = config.mode;
-    let text = mode_text(mode);
-    let span = config.span();
-    writeln!(
+    let Config {
+        cells,
+        occasions,
+        width,
+        mode,
+        ..
+    } = *config;
+    write!(
         f,
-        "  cells {cells}, occasions {occasions}, width {width}, mode {mode} ({text}), span {span}"
-    )
+        "  cells {cells}, occasions {occasions}, width {width}, mode {mode} ("
+    )?;
+    match Mode::try_from(mode) {
+        Ok(mode) => write!(f, "{mode}")?,
+        Err(_) => f.write_str("unknown")?,
+    }
+    let span = config.span();
+    writeln!(f, "), span {span}")
 }
 
 fn tell_refusal<W: fmt::Write>(f: &mut fmt::Formatter<W>, refusal: Refusal) -> fmt::Result {
@@ -73,12 +80,8 @@ fn outcome_text(outcome: u8) -> &'static str {
 }
 
 // What became of an assignment on the air.
-fn tell_fate<W: fmt::Write>(
-    f: &mut fmt::Formatter<W>,
-    arrived: bool,
-    blocks: u32,
-    outcomes: [u8; 2],
-) -> fmt::Result {
+fn tell_fate<W: fmt::Write>(f: &mut fmt::Formatter<W>, blocks: u32, fate: Fate) -> fmt::Result {
+    let Fate { arrived, outcomes } = fate;
     if !arrived {
         return f.write_str("lost\n");
     }
@@ -103,36 +106,44 @@ fn tell_dai<W: fmt::Write>(
     }
 }
 
-// Each assignment as it was sent, and its fate.
+// An assignment as it was sent.
+fn tell_entry<W: fmt::Write>(
+    f: &mut fmt::Formatter<W>,
+    config: &Config,
+    e: &GrantEntry,
+) -> fmt::Result {
+    let GrantEntry {
+        number,
+        occasion,
+        cell,
+        blocks,
+        field,
+        ..
+    } = *e;
+    // What was sent has a format with a layout, and the name of each has three characters.
+    let format = Format::try_from(e.format).unwrap_or(Format::OneTwo);
+    write!(
+        f,
+        "  {number:>6}  {occasion:>8}  {cell:>4}     {format}  {blocks:>6}  {field:>5}"
+    )?;
+    tell_dai(f, config.read_dai(e.format, field))
+}
+
+// Each assignment, and its fate.
 fn tell_sent<W: fmt::Write>(
     f: &mut fmt::Formatter<W>,
-    scenario: &Scenario,
-    played: &Played,
+    config: &Config,
+    sent: &[Sent],
 ) -> fmt::Result {
     f.write_str("\nsent\n")?;
-    if played.sent.is_empty() {
+    if sent.is_empty() {
         return f.write_str("  nothing\n");
     }
     f.write_str("  number  occasion  cell  format  blocks  field  counter  total  fate\n")?;
-    for (e, arrived) in played.sent.iter().zip(played.arrived.iter()) {
-        let number = e.number;
-        let occasion = e.occasion;
-        let cell = e.cell;
-        let format = format_text(e.format);
-        let blocks = e.blocks;
-        let field = e.field;
-        write!(
-            f,
-            "  {number:>6}  {occasion:>8}  {cell:>4}  {format:>6}  {blocks:>6}  {field:>5}"
-        )?;
-        tell_dai(f, scenario.config.read_dai(e.format, field))?;
+    for s in sent {
+        tell_entry(f, config, &s.entry)?;
         f.write_str("  ")?;
-        tell_fate(
-            f,
-            *arrived,
-            blocks,
-            Fate::of(scenario.fates.as_slice(), number).outcomes,
-        )?;
+        tell_fate(f, s.entry.blocks, s.fate)?;
     }
     Ok(())
 }
@@ -140,12 +151,12 @@ fn tell_sent<W: fmt::Write>(
 // So many of the digits, from one on.
 fn tell_bits<W: fmt::Write>(
     f: &mut fmt::Formatter<W>,
-    digits: &[u8],
+    digits: &str,
     from: usize,
     count: usize,
 ) -> fmt::Result {
-    for digit in digits.iter().skip(from).take(count) {
-        f.write_str(if *digit == b'1' { "1" } else { "0" })?;
+    for digit in digits.chars().skip(from).take(count) {
+        f.write_char(digit)?;
     }
     f.write_str("\n")
 }
@@ -155,31 +166,27 @@ fn tell_places<W: fmt::Write>(
     f: &mut fmt::Formatter<W>,
     bits: usize,
     places: usize,
-    played: &Played,
+    outcome: &Outcome,
 ) -> fmt::Result {
     if places > 0 {
         f.write_str("  place  number  bits\n")?;
     }
-    for (place, number) in played.holders.iter().enumerate().take(places) {
-        if *number == 0 {
-            write!(f, "  {place:>5}  nobody  ")?;
-        } else {
-            write!(f, "  {place:>5}  {number:>6}  ")?;
+    for (place, holder) in outcome.holders.iter().enumerate().take(places) {
+        match holder {
+            Some(number) => write!(f, "  {place:>5}  {number:>6}  ")?,
+            None => write!(f, "  {place:>5}  nobody  ")?,
         }
-        tell_bits(
-            f,
-            played.digits.as_slice(),
-            place.saturating_mul(bits),
-            bits,
-        )?;
+        tell_bits(f, outcome.digits.as_str(), place.saturating_mul(bits), bits)?;
     }
     Ok(())
 }
 
-fn tell_sps<W: fmt::Write>(f: &mut fmt::Formatter<W>, s: &SpsOutcome) -> fmt::Result {
-    let cell = s.entry.cell;
-    let configuration = s.entry.configuration;
-    let slot = s.entry.slot;
+fn tell_sps<W: fmt::Write>(f: &mut fmt::Formatter<W>, entry: SpsEntry) -> fmt::Result {
+    let SpsEntry {
+        cell,
+        configuration,
+        slot,
+    } = entry;
     write!(
         f,
         "  SPS cell {cell}, configuration {configuration}, slot {slot}: "
@@ -189,24 +196,23 @@ fn tell_sps<W: fmt::Write>(f: &mut fmt::Formatter<W>, s: &SpsOutcome) -> fmt::Re
 // The places, the SPS bits, and all bits in a row.
 fn tell_report<W: fmt::Write>(
     f: &mut fmt::Formatter<W>,
-    scenario: &Scenario,
-    played: &Played,
-    report: Result<usize, Refusal>,
+    script: &Script,
+    outcome: &Outcome,
 ) -> fmt::Result {
     f.write_str("\nreport\n")?;
-    let length = match report {
+    let length = match outcome.exchanged.report {
         Ok(length) => length,
         Err(refusal) => {
             f.write_str("  ")?;
             return tell_refusal(f, refusal);
         }
     };
-    let digits = played.digits.as_slice();
-    let behind = length.saturating_sub(scenario.sps.len());
-    let bits = scenario.config.bits_per_place();
-    tell_places(f, bits, behind / bits, played)?;
-    for (i, s) in scenario.sps.iter().enumerate() {
-        tell_sps(f, s)?;
+    let digits = outcome.digits.as_str();
+    let behind = length.saturating_sub(script.sps.len());
+    let bits = script.config.bits_per_place();
+    tell_places(f, bits, behind / bits, outcome)?;
+    for (i, s) in script.sps.iter().enumerate() {
+        tell_sps(f, s.entry)?;
         tell_bits(f, digits, behind.saturating_add(i), 1)?;
     }
     if length == 0 {
@@ -219,7 +225,7 @@ fn tell_report<W: fmt::Write>(
 // Every mark of every block and SPS entry.
 fn tell_marks<W: fmt::Write>(
     f: &mut fmt::Formatter<W>,
-    sent: &[GrantEntry],
+    sent: &[Sent],
     sps: &[SpsOutcome],
     marks: &[Mark],
 ) -> fmt::Result {
@@ -227,24 +233,16 @@ fn tell_marks<W: fmt::Write>(
     if sent.is_empty() && sps.is_empty() {
         return f.write_str("  none\n");
     }
-    for e in sent {
-        let number = e.number;
+    for s in sent {
+        let GrantEntry { number, marks, .. } = s.entry;
         write!(f, "  number {number:>3}: ")?;
-        match e.marks {
-            Marks::One(only) => {
-                let only = mark_text(only);
-                writeln!(f, "{only}")?;
-            }
-            Marks::Two(first, second) => {
-                let first = mark_text(first);
-                let second = mark_text(second);
-                writeln!(f, "{first}, {second}")?;
-            }
+        match marks {
+            Marks::One(only) => writeln!(f, "{only}")?,
+            Marks::Two(first, second) => writeln!(f, "{first}, {second}")?,
         }
     }
-    for (s, mark) in sps.iter().zip(marks.iter()) {
-        tell_sps(f, s)?;
-        let mark = mark_text(*mark);
+    for (s, mark) in sps.iter().zip(marks) {
+        tell_sps(f, s.entry)?;
         writeln!(f, "{mark}")?;
     }
     Ok(())
@@ -264,30 +262,26 @@ fn tell_counts<W: fmt::Write>(f: &mut fmt::Formatter<W>, counts: Counts) -> fmt:
 }
 
 // What both cards did once the gNB was opened.
-fn tell_exchange<W: fmt::Write>(
+fn tell_outcome<W: fmt::Write>(
     f: &mut fmt::Formatter<W>,
-    scenario: &Scenario,
-    played: &Played,
-    exchanged: &Exchanged,
+    script: &Script,
+    outcome: &Outcome,
 ) -> fmt::Result {
-    tell_calls(f, scenario.requests.as_slice(), played.answers.as_slice())?;
-    tell_sent(f, scenario, played)?;
-    tell_report(f, scenario, played, exchanged.report)?;
-    tell_lengths(f, &scenario.config, played, exchanged)?;
-    tell_marks(
-        f,
-        played.sent.as_slice(),
-        scenario.sps.as_slice(),
-        played.marks.as_slice(),
-    )?;
-    tell_counts(f, exchanged.counts)
+    let sent = outcome.sent.as_slice();
+    tell_calls(f, script.requests.as_slice(), outcome.answers.as_slice())?;
+    tell_sent(f, &script.config, sent)?;
+    tell_report(f, script, outcome)?;
+    tell_lengths(f, &script.config, outcome)?;
+    tell_marks(f, sent, script.sps.as_slice(), outcome.marks.as_slice())?;
+    tell_counts(f, outcome.exchanged.counts)
 }
 
 impl fmt::Display for Story {
     fn fmt<W: fmt::Write>(&self, f: &mut fmt::Formatter<W>) -> fmt::Result {
-        tell_heading(f, self.scenario.name.as_str(), &self.scenario.config)?;
-        match &self.played.answer {
-            Ok(exchanged) => tell_exchange(f, &self.scenario, &self.played, exchanged),
+        let script = &self.scenario.script;
+        tell_heading(f, self.scenario.name.as_str(), &script.config)?;
+        match &self.outcome {
+            Ok(outcome) => tell_outcome(f, script, outcome),
             Err(refusal) => {
                 f.write_str("\nopening\n  ")?;
                 tell_refusal(f, *refusal)

@@ -1,5 +1,4 @@
-// Refusals, modes, formats and marks in words.
-use gnb::Mark;
+// Refusals in words.
 use harq::Refusal;
 
 // What a refusal says.
@@ -18,30 +17,5 @@ pub fn refusal_text(refusal: Refusal) -> &'static str {
         Refusal::Trace => "trace broken",
         Refusal::Table => "grant table too short",
         Refusal::Place => "place past the report",
-    }
-}
-
-pub fn mode_text(mode: u32) -> &'static str {
-    match mode {
-        0 => "one block",
-        1 => "two blocks",
-        2 => "two blocks bundled",
-        _ => "unknown",
-    }
-}
-
-pub fn format_text(format: u32) -> &'static str {
-    match format {
-        0 => "1_0",
-        1 => "1_1",
-        _ => "1_2",
-    }
-}
-
-pub fn mark_text(mark: Mark) -> &'static str {
-    match mark {
-        Mark::Negative => "negative",
-        Mark::Delivered => "delivered",
-        Mark::Unanswered => "unanswered",
     }
 }

@@ -1,23 +1,17 @@
-use Rattle.std.proofs.Common.{◌+◌, false, get_or, sym, refl, subst}
-use Rattle.scenario.specs.declared.losses.Run.{Run}
-use Rattle.scenario.specs.Runs.{longer}
-use Rattle.scenario.proofs.Walking.{Walked, walked_first, walked_next, walked_last}
+use Rattle.std.proofs.Common.{rules}
+use Rattle.scenario.proofs.Walking.{walked_start, walked_more, walked_all}
 use Rattle.scenario.proofs.losses.longest_run.Goals as goal
 
-pub loop-here-init : goal.loop-here-init
-loop-here-init c = walked_first c.args.arrived.now
+pub loop-s-init : goal.loop-s-init
+loop-s-init c = walked_start _ _ _ (search rules) (search rules)
 
-pub loop-here-preserved : goal.loop-here-preserved
-loop-here-preserved c =
-    let arrived = c.args.arrived.now in
-    let i = c.loop-here.here-index in
-    let best = c.loop-here.best in
-    subst (λ (b : Run). Walked arrived (i + 1) b c.after-run.result) (sym c.or_longer-best.ensures)
-    (subst (λ (n : Run). Walked arrived (i + 1) (longer best n) n) (sym c.after-run.ensures)
-    (walked_next arrived i best c.loop-here.run c.loop-here-test.true c.loop-here.invariant (get_or arrived i false) refl))
+pub loop-s-preserved : goal.loop-s-preserved
+loop-s-preserved c =
+    let l = c.loop-s in
+    walked_more c.args.sent.now l.s-index _ l.best l.run _ _ c.loop-s-test.true l.invariant c.after-run.ensures c.or_longer-best.ensures
 
 pub returns : goal.returns
 returns c = record {
-  long = walked_last c.args.arrived.now c.loop-here.here-index c.loop-here.best c.loop-here.run c.loop-here-test.false c.loop-here.invariant;
-  lost = c.loop-here.invariant.best_lost;
+  long = walked_all c.args.sent.now c.loop-s.s-index c.loop-s.best c.loop-s.run c.loop-s-test.false c.loop-s.invariant;
+  lost = c.loop-s.invariant.best_lost;
 }

@@ -1,5 +1,7 @@
+use Rattle.std.proofs.Common.{map}
+use Rattle.scenario.specs.Arrived.{arrived}
 use Rattle.scenario.proofs.Walking.{Walked}
 use Rattle.scenario.proofs.losses.longest_run.Given as goal
 
-abbrev pub invariant-loop-here : goal.invariant-loop-here
-invariant-loop-here l = Walked l.arrived l.here-index l.best l.run
+abbrev pub invariant-loop-s : goal.invariant-loop-s
+invariant-loop-s l = Walked (map arrived l.sent) l.s-index l.best l.run

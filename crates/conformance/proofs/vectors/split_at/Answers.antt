@@ -1,5 +1,0 @@
-use Rattle.conformance.proofs.Splitting.{split_found}
-use Rattle.conformance.proofs.vectors.split_at.Goals as goal
-
-pub returns : goal.returns
-returns c = split_found _ _ _ c.split_once.ensures.cases

@@ -1,0 +1,67 @@
+// Both cards in one call.
+ghost use Rattle.std.specs.Prelude.{◌≡◌, true, map, length, is_ok, OnOk};
+ghost use Rattle.sink.specs.Digits.{digit};
+ghost use Rattle.sink.specs.Written.{written};
+ghost use Rattle.gnb.specs.Plans.{call_of};
+ghost use Rattle.link.specs.Played.{exchange_of, exchanged, table_exchanged, marks_exchanged, bits_exchanged};
+ghost use Rattle.replay.specs.Scripts.{exchange_by};
+
+use crate::scripts::Script;
+use gnb::{Call, GrantEntry, Mark};
+use harq::Refusal;
+use link::{Batch, Exchanged, Inverted, Plain};
+use sink::{BitSink, Inverter, TextBits};
+use ue::Slot;
+
+// The longest report, in bits.
+pub(crate) const LONGEST: usize = 1706;
+
+// Whether the report goes into the sink as it is.
+#[derive(Clone, Copy)]
+pub enum Way {
+    Plain,
+    Inverted,
+}
+
+// An exchange on its way. Below the inverter stands another one, so that the sink takes the bits of the report either way.
+fn pass<S: BitSink>(
+    way: Way,
+    batch: &Batch,
+    table: &mut [GrantEntry],
+    marks: &mut [Mark],
+    slots: &mut [Slot],
+    sink: &mut S,
+) -> Result<Exchanged, Refusal>
+    ensures exchanged { result ≡ exchanged (exchange_of batch.now table.old marks.old slots.old (S.room sink.old)) }
+    ensures table { table.new ≡ table_exchanged (exchange_of batch.now table.old marks.old slots.old (S.room sink.old)) }
+    ensures marks { marks.new ≡ marks_exchanged (exchange_of batch.now table.old marks.old slots.old (S.room sink.old)) }
+    ensures took { is_ok result ≡ true → S.took sink.old (bits_exchanged (exchange_of batch.now table.old marks.old slots.old (S.room sink.old))) sink.new }
+{
+    match way {
+        Way::Plain => batch.exchange::<Plain, S>(table, marks, slots, sink),
+        Way::Inverted => {
+            let mut inverter = Inverter::new(sink);
+            batch.exchange::<Inverted, Inverter<&mut S>>(table, marks, slots, &mut inverter)
+        }
+    }
+}
+
+// The exchange of a script over text: in front stand the digits of the report.
+pub(crate) fn run(
+    script: &Script,
+    way: Way,
+    calls: &[Call],
+    table: &mut [GrantEntry],
+    marks: &mut [Mark],
+    digits: &mut [u8],
+) -> Result<Exchanged, Refusal>
+    ensures exchanged { result ≡ exchanged (exchange_by script.now (map call_of calls.now) table.old marks.old (length digits.old)) }
+    ensures table { table.new ≡ table_exchanged (exchange_by script.now (map call_of calls.now) table.old marks.old (length digits.old)) }
+    ensures marks { marks.new ≡ marks_exchanged (exchange_by script.now (map call_of calls.now) table.old marks.old (length digits.old)) }
+    ensures digits { OnOk result (digits.new ≡ written digits.old 0 (map digit (bits_exchanged (exchange_by script.now (map call_of calls.now) table.old marks.old (length digits.old))))) }
+{
+    let batch = script.batch(calls);
+    let mut slots = [Slot::One(false); LONGEST];
+    let mut text = TextBits::new(digits);
+    pass(way, &batch, table, marks, &mut slots, &mut text)
+}
