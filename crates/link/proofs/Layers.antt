@@ -5,7 +5,7 @@ use Rattle.sink.specs.Bits.{bits_of}
 use Rattle.sink.specs.Ends.{capacity}
 use Rattle.sink.specs.Sink.{accepted}
 use Rattle.sink.specs.Written.{written}
-use Rattle.sink.proofs.Laws.{accepted_room}
+use Rattle.sink.proofs.Laws.{all_gained_room}
 use Rattle.sink.proofs.Packing.{length_bits}
 use Rattle.sink.proofs.Writing.{written_over}
 use Rattle.agreement.specs.Agreement.{Hold}
@@ -24,7 +24,7 @@ module _ (aired : List Bool → List Bool) (same_length : (bits : List Bool) →
   packed_heard zeros bytes recorded bits took long few packed =
       let back : accepted (capacity (length zeros)) (aired recorded) ≡ bits =
       ap (λ (l : List Bool). accepted (capacity (length zeros)) (aired l)) took ∙ ap (accepted (capacity (length zeros))) (undoes bits)
-      ∙ accepted_room (capacity (length zeros)) bits (omega (arith, long, few))
+      ∙ all_gained_room (capacity (length zeros)) [] bits (omega (arith, long, few))
       in
       ap (take (length bits)) (packed ∙ ap (written (bits_of zeros) 0) back ∙ written_over (bits_of zeros) bits (omega (arith, length_bits zeros)))
       ∙ take_at bits (drop (length bits) (bits_of zeros)) (length bits) refl
