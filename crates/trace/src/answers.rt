@@ -20,8 +20,8 @@ fn blamed_offset(batch: &Batch, end: usize, part: Part) -> usize
     let records = batch.records.as_slice();
     match part {
         Part::Configuration => 0,
-        Part::Arrival(i) => nth_offset::<Arrival>(records, i).unwrap_or(end),
-        Part::Sps(i) => nth_offset::<SpsOutcome>(records, i).unwrap_or(end),
+        Part::Arrival(i) => nth_offset::<Arrival>(records, i, end),
+        Part::Sps(i) => nth_offset::<SpsOutcome>(records, i, end),
         Part::Whole => end,
     }
 }

@@ -1,5 +1,5 @@
 // What the UE has of a trace: the configuration, the arrivals and the SPS receptions, beside the records that say them.
-ghost use Rattle.std.specs.Prelude.{◌≡◌, map, IfOk, Option, slice_get, slice_index};
+ghost use Rattle.std.specs.Prelude.{◌≡◌, map, IfOk, Option, slice_index, slice_index_or};
 ghost use Rattle.std.specs.List.{filter_map};
 ghost use Rattle.trace.specs.Records.{Entry, entry_of};
 ghost use Rattle.trace.specs.Batches.{numbers_from, no_config, config_of, config_in, arrival_of, sps_of, offsets_by, contents, Batched};
@@ -150,15 +150,20 @@ fn said_by<T: FromRecord + Drop>(heap: Global, records: &[Record]) -> Result<Vec
         .collect(heap)
 }
 
-// The offset of one of the records of that kind.
-pub(crate) fn nth_offset<T: FromRecord + Drop>(records: &[Record], index: usize) -> Option<usize>
-    ensures { result ≡ slice_get (offsets_by T.FromRecord.said (map entry_of records.now)) index }
+// The offset of one of the records of that kind, or the end where there are not as many.
+pub(crate) fn nth_offset<T: FromRecord + Drop>(
+    records: &[Record],
+    index: usize,
+    end: usize,
+) -> usize
+    ensures { result ≡ slice_index_or (offsets_by T.FromRecord.said (map entry_of records.now)) index end }
 {
     records
         .iter()
         .filter(|record| T::from_record(*record).is_some())
         .map(|record| record.offset())
         .nth(index)
+        .unwrap_or(end)
 }
 
 // The batch of a trace.
