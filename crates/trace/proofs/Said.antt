@@ -1,7 +1,6 @@
 -- What records say, and where they stand, from the records as they are held. Assumes nothing.
-use Rattle.std.proofs.Common.{◌≡◌, ℕ, Bool, true, false, cond, List, [], ◌∷◌, map, filter, is_some, Some, None, Ok, Option, Result, vec_items, sym, refl, ap, ◌∙◌}
+use Rattle.std.proofs.Common.{◌≡◌, ℕ, Bool, true, false, cond, List, [], ◌∷◌, map, filter, is_some, Ok, Option, Result, vec_items, sym, refl, ap, ◌∙◌}
 use Rattle.std.specs.List.{filter_map, cons_option}
-use Rattle.std.specs.Option.{option_map}
 use Rattle.harq.specs.declared.configs.Config.{Config}
 use Rattle.ue.specs.declared.arrivals.Arrival.{Arrival}
 use Rattle.ue.specs.declared.arrivals.SpsOutcome.{SpsOutcome}
@@ -26,17 +25,15 @@ pub offsets_under : {X : Type 0} (f : Entry → Option X) (rs : List Record) →
 offsets_under f [] = refl
 offsets_under f (r ∷ rs) = kept (is_some (f (entry_of r))) r _ _ (offsets_under f rs)
 
--- what `nth` gives behind a map
-pub option_same : {X : Type 0} (o : Option X) → option_map (λ x. x) o ≡ o
-option_same None = refl
-option_same (Some x) = refl
-
 -- a batch by its parts
-pub batch_held : (bs : List ℕ) (b : Batch) (es : List Entry) → map entry_of (vec_items b.records) ≡ es → entries bs ≡ Ok es → b.config ≡ config_in es → vec_items b.arrivals ≡ filter_map arrival_of es → vec_items b.sps ≡ filter_map sps_of es → contents bs ≡ Ok (held b)
-batch_held bs b es from read config arrivals receptions =
-    let made : Config → List Arrival → List SpsOutcome → List Entry → Result Contents Fault = λ k xs ys l. Ok (record { config = k; arrivals = xs; arrival_offsets = offsets_by arrival_of l; sps = ys; sps_offsets = offsets_by sps_of l }) in
+pub batch_held : (bs : List ℕ) (b : Batch) (es : List Entry) → entries bs ≡ Ok es → b.config ≡ config_in es →
+    vec_items b.arrivals ≡ filter_map arrival_of es → vec_items b.arrival_offsets ≡ offsets_by arrival_of es →
+    vec_items b.sps ≡ filter_map sps_of es → vec_items b.sps_offsets ≡ offsets_by sps_of es → contents bs ≡ Ok (held b)
+batch_held bs b es read config arrivals arrived receptions received =
+    let made : Config → List Arrival → List ℕ → List SpsOutcome → List ℕ → Result Contents Fault = λ k xs ms ys ns. Ok (record { config = k; arrivals = xs; arrival_offsets = ms; sps = ys; sps_offsets = ns }) in
     ap (λ r. after r (λ l. Ok (contents_of l))) read
-    ∙ ap (λ k. made k (filter_map arrival_of es) (filter_map sps_of es) es) (sym config)
-    ∙ ap (λ xs. made b.config xs (filter_map sps_of es) es) (sym arrivals)
-    ∙ ap (λ ys. made b.config (vec_items b.arrivals) ys es) (sym receptions)
-    ∙ ap (λ l. made b.config (vec_items b.arrivals) (vec_items b.sps) l) (sym from)
+    ∙ ap (λ k. made k (filter_map arrival_of es) (offsets_by arrival_of es) (filter_map sps_of es) (offsets_by sps_of es)) (sym config)
+    ∙ ap (λ xs. made b.config xs (offsets_by arrival_of es) (filter_map sps_of es) (offsets_by sps_of es)) (sym arrivals)
+    ∙ ap (λ ms. made b.config (vec_items b.arrivals) ms (filter_map sps_of es) (offsets_by sps_of es)) (sym arrived)
+    ∙ ap (λ ys. made b.config (vec_items b.arrivals) (vec_items b.arrival_offsets) ys (offsets_by sps_of es)) (sym receptions)
+    ∙ ap (λ ns. made b.config (vec_items b.arrivals) (vec_items b.arrival_offsets) (vec_items b.sps) ns) (sym received)

@@ -11,7 +11,7 @@ use Rattle.trace.specs.declared.faults.Failure.TheVariants as failure
 use Rattle.trace.specs.declared.faults.Fault.{Fault}
 use Rattle.trace.specs.Faults.{after}
 use Rattle.trace.specs.Numbers.{number_at}
-use Rattle.trace.specs.Records.{Entry, entry_of, offset_of, configuration, assignment, sps}
+use Rattle.trace.specs.Records.{Entry, offset_of, configuration, assignment, sps}
 use Rattle.trace.specs.Files.{entries}
 
 -- what was read, or 0 and the same offset
@@ -84,9 +84,9 @@ abbrev pub held : Batch → Contents
 held b = record {
   config = b.config;
   arrivals = vec_items b.arrivals;
-  arrival_offsets = offsets_by arrival_of (map entry_of (vec_items b.records));
+  arrival_offsets = vec_items b.arrival_offsets;
   sps = vec_items b.sps;
-  sps_offsets = offsets_by sps_of (map entry_of (vec_items b.records));
+  sps_offsets = vec_items b.sps_offsets;
 }
 
 -- what the reader of a batch answers; want of memory says nothing of the trace

@@ -6,22 +6,21 @@ ghost use Rattle.ue.specs.Reports.{report_answer, gained_by};
 ghost use Rattle.trace.specs.Batches.{held};
 ghost use Rattle.trace.specs.Answers.{offset_of, batch_line, line_of};
 
-use super::batches::{Batch, nth_offset, read_batch};
+use super::batches::{Batch, read_batch};
 use super::faults::{Failure, Fault, Layer};
 use super::lines::{fault_line, report_line};
 use sink::TextBits;
 use std::alloc::{AllocError, Global};
-use ue::{Arrival, Decline, LONGEST_REPORT, Part, Slot, SpsOutcome, report_located};
+use ue::{Decline, LONGEST_REPORT, Part, Slot, report_located};
 
 // The place that a decline blames: the first byte of the record that failed, or the end of the trace.
 fn blamed_offset(batch: &Batch, end: usize, part: Part) -> usize
     ensures { result ≡ offset_of (held batch.now) end part }
 {
-    let records = batch.records.as_slice();
     match part {
         Part::Configuration => 0,
-        Part::Arrival(i) => nth_offset::<Arrival>(records, i, end),
-        Part::Sps(i) => nth_offset::<SpsOutcome>(records, i, end),
+        Part::Arrival(i) => batch.arrival_offsets.get(i).copied().unwrap_or(end),
+        Part::Sps(i) => batch.sps_offsets.get(i).copied().unwrap_or(end),
         Part::Whole => end,
     }
 }

@@ -1,4 +1,4 @@
-// What the UE has of a trace: the configuration, the arrivals and the SPS receptions, beside the records that say them.
+// What the UE has of a trace: the configuration, the arrivals and the SPS receptions, with the offsets of their records.
 ghost use Rattle.std.specs.Prelude.{◌≡◌, map, IfOk, Option, slice_index, slice_index_or};
 ghost use Rattle.std.specs.List.{filter_map};
 ghost use Rattle.trace.specs.Records.{Entry, entry_of};
@@ -12,12 +12,17 @@ use harq::{Config, SpsEntry};
 use std::alloc::{AllocError, Global};
 use ue::{Arrival, SpsOutcome};
 
+// Offsets stand apart from what they are of: the report takes a slice of arrivals alone, and a batch that kept the records would have to borrow
+// the trace.
 #[derive(Drop)]
-pub struct Batch<'a> {
-    pub records: Vec<Record<'a>>,
+pub struct Batch {
     pub config: Config,
     pub arrivals: Vec<Arrival>,
+    // The offset of each arrival's record.
+    pub arrival_offsets: Vec<usize>,
     pub sps: Vec<SpsOutcome>,
+    // The offset of each SPS reception's record.
+    pub sps_offsets: Vec<usize>,
 }
 
 // The first occasions as far as there are, at most 16, the others 0.
@@ -150,34 +155,35 @@ fn said_by<T: FromRecord + Drop>(heap: Global, records: &[Record]) -> Result<Vec
         .collect(heap)
 }
 
-// The offset of one of the records of that kind, or the end where there are not as many.
-pub(crate) fn nth_offset<T: FromRecord + Drop>(
+// The offsets of the records of one kind, in their order.
+fn offsets_of<T: FromRecord + Drop>(
+    heap: Global,
     records: &[Record],
-    index: usize,
-    end: usize,
-) -> usize
-    ensures { result ≡ slice_index_or (offsets_by T.FromRecord.said (map entry_of records.now)) index end }
+) -> Result<Vec<usize>, AllocError>
+    ensures { IfOk result (λ v. v.items ≡ offsets_by T.FromRecord.said (map entry_of records.now)) }
 {
     records
         .iter()
         .filter(|record| T::from_record(*record).is_some())
         .map(|record| record.offset())
-        .nth(index)
-        .unwrap_or(end)
+        .collect(heap)
 }
 
 // The batch of a trace.
-pub fn read_batch<'a>(heap: Global, input: &'a [u8]) -> Result<Batch<'a>, Failure>
+pub fn read_batch(heap: Global, input: &[u8]) -> Result<Batch, Failure>
     ensures { Batched result (contents input.now) }
 {
     let records = read_records(heap, input)?;
     let config = configuration(records.as_slice());
     let arrivals = said_by(heap, records.as_slice())?;
+    let arrival_offsets = offsets_of::<Arrival>(heap, records.as_slice())?;
     let sps = said_by(heap, records.as_slice())?;
+    let sps_offsets = offsets_of::<SpsOutcome>(heap, records.as_slice())?;
     Ok(Batch {
-        records,
         config,
         arrivals,
+        arrival_offsets,
         sps,
+        sps_offsets,
     })
 }
