@@ -1,4 +1,4 @@
-use Rattle.std.proofs.Common.{◌≡◌, length, vec_items}
+use Rattle.std.proofs.Common.{◌≡◌, vec_items}
 use Rattle.std.specs.Slice.Iter.{chunks_rest, chunks_size}
 use Rattle.conformance.specs.Hex.{hex_bytes}
 use Rattle.conformance.proofs.Decoding.{behind}
