@@ -1,5 +1,6 @@
 // The DCI formats that schedule a reception.
 ghost use Rattle.std.specs.Prelude.{◌≡◌, Some};
+ghost use Rattle.std.specs.Fmt.{padded};
 ghost use Rattle.harq.specs.Formats.{format_numbered, format_number, format_name};
 
 use std::fmt;
@@ -41,8 +42,10 @@ impl From<Format> for u32 {
 impl fmt::Display for Format {
     ghost output = { λ f. Some (format_name f) };
 
+    ghost styled_output = { λ f spec. Some (padded spec (format_name f)) };
+
     fn fmt<W: fmt::Write>(&self, f: &mut fmt::Formatter<W>) -> fmt::Result {
-        f.write_str(match self {
+        f.pad(match self {
             Format::OneZero => "1_0",
             Format::OneOne => "1_1",
             Format::OneTwo => "1_2",

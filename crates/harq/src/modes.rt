@@ -1,5 +1,6 @@
 // What an assignment carries, and how the report answers it.
 ghost use Rattle.std.specs.Prelude.{◌≡◌, Some};
+ghost use Rattle.std.specs.Fmt.{padded};
 ghost use Rattle.harq.specs.Modes.{mode_numbered, mode_number, mode_name};
 
 use std::fmt;
@@ -44,8 +45,10 @@ impl From<Mode> for u32 {
 impl fmt::Display for Mode {
     ghost output = { λ m. Some (mode_name m) };
 
+    ghost styled_output = { λ m spec. Some (padded spec (mode_name m)) };
+
     fn fmt<W: fmt::Write>(&self, f: &mut fmt::Formatter<W>) -> fmt::Result {
-        f.write_str(match self {
+        f.pad(match self {
             Mode::OneBlock => "one block",
             Mode::TwoBlocks => "two blocks",
             Mode::Bundled => "two blocks bundled",

@@ -6,7 +6,8 @@ ghost use Rattle.sink.specs.Ends.{text_taken, text_room, TextTook};
 use crate::BitSink;
 use harq::Refusal;
 
-// Not one type with `PackedBits`: list, room and memory of each go by another unit, a byte or a bit.
+// Fixed memory that the caller lent, and how much of it is used, as in `PackedBits`. Not one type with it: list, room and memory of each go by
+// another unit, a byte or a bit.
 #[derive(Drop)]
 pub struct TextBits<'a> {
     bytes: &'a mut [u8],

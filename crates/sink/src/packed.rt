@@ -6,7 +6,8 @@ ghost use Rattle.sink.specs.Ends.{capacity, packed_taken, packed_room, PackedToo
 use crate::BitSink;
 use harq::Refusal;
 
-// The lent bytes, and how many of their bits are used: contracts name both. Only the first 65,536 bytes count; every bit that was not put stays.
+// Fixed memory that the caller lent, and how many of its bits are used. The bytes stay whole, since contracts speak of all of them: a slice that
+// shrinks would lose the front. Only the first 65,536 bytes count; every bit that was not put stays.
 #[derive(Drop)]
 pub struct PackedBits<'a> {
     bytes: &'a mut [u8],
@@ -56,7 +57,7 @@ fn with_bit(byte: u8, k: usize, bit: bool) -> u8
     if bit { byte | only } else { byte & !only }
 }
 
-// Sets the bit at that index of packed bytes alone; false where there is none.
+// Sets the bit at that index of packed bytes alone; false where there is none, which is no failure and brings no value.
 #[tactic(auto, using(crate::proofs::Packing::bits_set, crate::proofs::Packing::length_bits, std::proofs::lemmas::List::set_past))]
 pub fn set_bit(bytes: &mut [u8], index: usize, bit: bool) -> bool
     ensures found { result ≡ nat_lt index (8 * length bytes.old) }
