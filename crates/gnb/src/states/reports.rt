@@ -1,5 +1,5 @@
 // Settlement: the report is read, or declared absent.
-ghost use Rattle.std.specs.Prelude.{◌≡◌, ℕ, ◌+◌, ◌≤◌, false, cond, [], length, is_some, Some, None};
+ghost use Rattle.std.specs.Prelude.{◌≡◌, ℕ, ◌+◌, ◌≤◌, false, cond, not, ◌&&◌, [], length, take, is_some, Some, None};
 ghost use Rattle.harq.specs.Words.{every};
 ghost use Rattle.sink.specs.Bits.{bits_of};
 ghost use Rattle.gnb.specs.Readings.{answering, bits_heard, mark_by, block_bit, marks_by, entry_read, firsts, table_read, sps_read, counted, too_short, has_place, reading_refused, absence_refused, settled, table_settled, marks_settled, settled_of};
@@ -100,6 +100,15 @@ impl Awaiting {
         (bits == expected && expected.div_ceil(8) <= bytes.len()).then_some(bytes)
     }
 
+    // Whether there is a report, and a grant has no place in it.
+    fn lacks_place(&self, report: Option<&[u8]>, table: &[GrantEntry]) -> bool
+        requires { self.now.batch.numbered ≤ length table.now }
+        ensures { result ≡ (is_some report.entry && not (every (has_place self.now.batch.numbered) (take self.now.batch.numbered table.now))) }
+    {
+        let grants = self.batch.numbered;
+        report.is_some() && !have_places(&table[..grants as usize], grants)
+    }
+
     // Marks all blocks, and counts the marks.
     fn settle(self, report: Option<&[u8]>, table: &mut [GrantEntry], marks: &mut [Mark]) -> Counts
         requires { too_short self.batch (length table.old) (length marks.old) ≡ false }
@@ -136,8 +145,7 @@ impl Awaiting {
             return Err((Refusal::Table, self));
         }
         let report = self.answered_by(bytes, bits);
-        let grants = self.batch.numbered;
-        if report.is_some() && !have_places(&table[..grants as usize], grants) {
+        if self.lacks_place(report, table) {
             return Err((Refusal::Place, self));
         }
         Ok(self.settle(report, table, marks))
