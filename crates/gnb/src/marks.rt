@@ -53,6 +53,7 @@ pub enum Marks {
     Two(Mark, Mark),
 }
 
+// By hand: the default is a variant with a value.
 impl Default for Marks {
     ghost is_default = { λ marks. marks ≡ blank };
 

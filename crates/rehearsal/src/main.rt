@@ -62,6 +62,7 @@ fn run(rt: &HostRuntime) -> anyhow::Result<()> {
     let expected = plan(config, &[], &calls, &mut table, &mut marks).map_err(|_| anyhow!(
         "the batch is declined"
     ))?;
+    // Numbers are counted from 1: 0 is an entry that was not written.
     for entry in table.iter().filter(|entry| entry.number > 0) {
         show_entry(rt, entry)?;
     }

@@ -43,6 +43,7 @@ impl fmt::Display for Report<'_> {
 }
 
 // The line of a report, without its line feed.
+// Length and digits come apart, as the report answers the one and fills lent bytes with the other.
 pub fn report_line(heap: Global, length: usize, digits: &[u8]) -> Result<String, AllocError>
     ensures { IfOk result (λ s. string_bytes s ≡ report_bytes length (map shown_digit digits.now)) }
 {

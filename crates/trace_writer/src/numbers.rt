@@ -16,7 +16,7 @@ fn lowest_group(rest: u32) -> u8
 pub fn write_number(out: &mut Vec<u8>, value: u32) -> Result<(), AllocError>
     ensures { OnOk result (out.new.items ≡ out.old.items ++ coded value) }
 {
-    // Each turn divides what is left, which no iterator of the library yields.
+    // A loop: `successors` would yield what is left each time, but not which is the last.
     let mut rest = value;
     while rest >= 128 {
         out.push(lowest_group(rest))?;

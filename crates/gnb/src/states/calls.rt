@@ -103,6 +103,7 @@ impl Numbering {
         ensures is { result ≡ allowed (grants_refused self.now.batch.config occasion 0 grants.now) }
         ensures few { OnOk result (length grants.now ≤ self.now.batch.config.cells) }
     {
+        // A loop, since each grant is held against the one before it.
         let mut lowest = 0;
         for a in grants {
             self.check_grant(occasion, lowest, a)?;

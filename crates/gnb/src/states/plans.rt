@@ -15,6 +15,7 @@ impl Numbering {
         ensures table { table.new ≡ table_run self.old.batch table.old (map call_of calls.now) }
     {
         for call in calls {
+            // A declined call leaves all as it was.
             let _ = self.number(table, call.occasion, call.grants);
         }
     }
