@@ -12,6 +12,7 @@ use ue::Arrival;
 fn arrival_of(e: &GrantEntry, fate: Fate) -> Arrival
     ensures { result ≡ arrival_of (assignment_in e.now) fate }
 {
+    // A local, since the borrow checker does not cover an array that is read out of a field straight into a literal.
     let outcomes = fate.outcomes;
     Arrival {
         cell: e.cell,
