@@ -1,4 +1,5 @@
 pub mod Layers
+pub mod Filling
 pub mod Bounds
 pub mod Cutting
 pub mod Heard

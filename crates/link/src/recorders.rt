@@ -47,6 +47,7 @@ impl<S: BitSink> BitSink for Recorder<S> {
 
     fn put(&mut self, bit: bool) -> Result<(), Refusal> {
         self.below.put(bit)?;
+        // A bit past REPORT_BITS is passed on and not kept.
         let _ = self.bits.try_push(bit);
         Ok(())
     }
