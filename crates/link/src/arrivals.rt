@@ -8,6 +8,9 @@ use arrayvec::ArrayVec;
 use gnb::GrantEntry;
 use ue::Arrival;
 
+// A batch numbers one assignment for each of 16 cells and 32 occasions at most.
+const MOST: usize = 512;
+
 // An assignment arrives unaltered, with the outcomes of its blocks.
 fn arrival_of(e: &GrantEntry, fate: Fate) -> Arrival
     ensures { result ≡ arrival_of (assignment_in e.now) fate }
@@ -33,8 +36,8 @@ fn arrival_in(fates: &[Fate], e: &GrantEntry) -> Option<Arrival>
 }
 
 // Those of the entries' assignments that are not lost.
-pub(crate) fn arrive(fates: &[Fate], entries: &[GrantEntry]) -> ArrayVec<Arrival, 512>
-    requires { length entries.now ≤ 512 }
+pub(crate) fn arrive(fates: &[Fate], entries: &[GrantEntry]) -> ArrayVec<Arrival, MOST>
+    requires { length entries.now ≤ MOST }
     ensures { result.items ≡ arrivals_of fates.now (map assignment_in entries.now) }
 {
     let mut arrivals = ArrayVec::new();

@@ -9,6 +9,7 @@ use ue::LONGEST_REPORT;
 
 // The bytes that hold the longest report, and the bits that they hold.
 pub(crate) const REPORT_BYTES: usize = (LONGEST_REPORT + 7) / 8;
+
 const REPORT_BITS: usize = 8 * REPORT_BYTES;
 
 // Passes each bit down, and keeps those that are taken: as many as the bytes of the longest report hold, which it does not fill.
