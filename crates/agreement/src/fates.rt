@@ -3,7 +3,8 @@ ghost use Rattle.std.specs.Prelude.{◌≡◌};
 ghost use Rattle.agreement.specs.Fates.{fate_of};
 
 // Whether an assignment arrived, and how its blocks came out (1 ACK, 0 NACK). By default it is lost.
-#[derive(Clone, Copy, Debug, Default)]
+// No enum: inputs give both, in any order, and the outcomes of a lost assignment are kept as given, though nothing reads them.
+#[derive(Clone, Copy, Debug, Default, PartialEq, Eq)]
 pub struct Fate {
     pub arrived: bool,
     pub outcomes: [u8; 2],

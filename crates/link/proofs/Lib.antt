@@ -1,4 +1,6 @@
 pub mod Layers
+pub mod Filling
+pub mod Arriving
 pub mod Bounds
 pub mod Cutting
 pub mod Heard

@@ -23,7 +23,7 @@ pub struct Batch<'a> {
 }
 
 // Both lengths, and the counts of the marks.
-#[derive(Clone, Copy)]
+#[derive(Clone, Copy, Debug, PartialEq, Eq)]
 pub struct Exchanged {
     // The length of the report that the gNB expects.
     pub expected: usize,

@@ -13,12 +13,11 @@ const MOST: usize = 65;
 
 // The entries of the first receptions.
 fn entries_of(sps: &[SpsOutcome]) -> ArrayVec<SpsEntry, MOST>
-    ensures { result.items ≡ take 65 (map (λ (s : SpsOutcome). s.entry) sps.now) }
+    ensures { result.items ≡ take MOST (map (λ (s : SpsOutcome). s.entry) sps.now) }
 {
     let mut entries = ArrayVec::new();
-    for s in &sps[..MOST.min(sps.len())] {
-        entries.push(s.entry);
-    }
+    // All of these fit.
+    let _ = entries.extend(sps.iter().take(MOST).map(|s| s.entry));
     entries
 }
 

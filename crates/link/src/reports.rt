@@ -4,7 +4,7 @@ ghost use Rattle.ue.specs.Reports.{gained_by};
 ghost use Rattle.agreement.specs.Agreement.{Hold};
 ghost use Rattle.link.specs.Reported.{IsReported};
 
-use crate::recorders::Recorder;
+use crate::recorders::{REPORT_BYTES, Recorder};
 use crate::ways::Way;
 use harq::{Config, Refusal};
 use sink::BitSink;
@@ -13,7 +13,7 @@ use ue::{Arrival, Slot, SpsOutcome};
 // What the report answered, and the bytes that the gNB reads.
 pub(crate) struct Heard {
     pub(crate) report: Result<usize, Refusal>,
-    pub(crate) bytes: [u8; 214],
+    pub(crate) bytes: [u8; REPORT_BYTES],
 }
 
 // The report into the caller's sink; the bits that the sink's own list gained of it are kept for the gNB.
@@ -30,7 +30,7 @@ pub(crate) fn report_heard<W: Way, S: BitSink>(
 {
     let mut recorder = Recorder::new(sink);
     let report = W::report(config, arrivals, sps, slots, &mut recorder);
-    let mut bytes = [0; 214];
+    let mut bytes = [0; REPORT_BYTES];
     let _ = W::pack(recorder.bits(), &mut bytes);
     Heard { report, bytes }
 }

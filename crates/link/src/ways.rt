@@ -4,7 +4,7 @@ ghost use Rattle.std.proofs.Common.{refl};
 ghost use Rattle.std.proofs.lemmas.List.{length-map};
 ghost use Rattle.sink.specs.Bits.{bits_of};
 ghost use Rattle.sink.specs.Ends.{capacity};
-ghost use Rattle.sink.specs.Sink.{accepted};
+ghost use Rattle.sink.specs.Sink.{all_answer, accepted};
 ghost use Rattle.sink.specs.Written.{written};
 ghost use Rattle.sink.proofs.Laws.{flip_twice};
 ghost use Rattle.link.specs.Reported.{IsReported};
@@ -29,7 +29,8 @@ pub trait Way {
 
     // Packs the bits that the sink took as the report has them.
     fn pack(bits: &[bool], bytes: &mut [u8]) -> Result<usize, Refusal>
-        ensures { bits_of bytes.new ≡ written (bits_of bytes.old) 0 (accepted (capacity (length bytes.old)) (aired bits.now)) };
+        ensures answer { result ≡ all_answer (capacity (length bytes.old)) bits.now }
+        ensures bytes { bits_of bytes.new ≡ written (bits_of bytes.old) 0 (accepted (capacity (length bytes.old)) (aired bits.now)) };
 
     ghost same_length: { (bits : List Bool) → length (aired bits) ≡ length bits };
 

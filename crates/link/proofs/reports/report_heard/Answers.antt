@@ -39,6 +39,6 @@ returns g c =
         took = search rules;
         kept = search rules;
       };
-      heard = packed_heard aired way.same_length way.undoes _ _ c.bits.result.now bits (c.bits.ensures ∙ recorded) refl (omega (arith, few)) c.pack.ensures;
+      heard = packed_heard aired way.same_length way.undoes _ _ c.bits.result.now bits (c.bits.ensures ∙ recorded) refl (omega (arith, few)) c.pack.ensures.bytes;
       held = held_by _ _ long (subst (λ r. IfOk r (λ n. n ≤ 1706)) (sym reported.answer) (answered_few c.args.config.now c.args.arrivals.now c.args.sps.now (length c.args.slots.now) _));
     }
