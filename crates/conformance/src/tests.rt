@@ -4,7 +4,7 @@ use harq::{Config, Format, Refusal};
 use sink::{BitSink, PackedBits, Quota, TextBits};
 use std::process::Abort;
 use std::test::Fail;
-use ue::{Arrival, Slot, report, transmit};
+use ue::{Arrival, Received, Slot};
 
 // Two cells, three occasions.
 const CONFIG: Config = Config {
@@ -35,10 +35,19 @@ fn first_and_fifth() -> [Arrival; 2] {
     [decoded(0, 0, 1), decoded(1, 2, 0)]
 }
 
+// These assignments in the two cells, and no SPS reception.
+fn received(arrivals: &[Arrival]) -> Received<'_> {
+    Received {
+        config: &CONFIG,
+        arrivals,
+        sps: &[],
+    }
+}
+
 // Five bits are refused by a sink that has room for four; slots and sink stay as they were.
 fn check_no_room<S: BitSink>(rt: &impl Abort, sink: &mut S) {
     let mut slots = [LENT; 6];
-    let answer = report(&CONFIG, &first_and_fifth(), &[], &mut slots, sink);
+    let answer = received(&first_and_fifth()).report(&mut slots, sink);
     assert_eq!(rt; answer, Err(Refusal::Room));
     assert_eq!(rt; S::room_left(sink), 4);
     assert_eq!(rt; slots, [LENT; 6]);
@@ -80,7 +89,7 @@ fn too_few_slots(rt: HostRuntime) {
     let mut bytes = *b"ab";
     let mut text = TextBits::new(&mut bytes);
     let arrivals = [decoded(0, 0, 1), decoded(1, 1, 10)];
-    let answer = report(&CONFIG, &arrivals, &[], &mut slots, &mut text);
+    let answer = received(&arrivals).report(&mut slots, &mut text);
     assert_eq!(rt; answer, Err(Refusal::Table));
     assert_eq!(rt; slots, [LENT; 2]);
     assert_eq!(rt; bytes, *b"ab");
@@ -92,7 +101,7 @@ fn quota_over_text(rt: HostRuntime) {
     let mut bytes = *b"abcdefgh";
     let mut text = TextBits::new(&mut bytes);
     let mut quota = Quota::new(&mut text, 5);
-    let answer = report(&CONFIG, &first_and_fifth(), &[], &mut slots, &mut quota);
+    let answer = received(&first_and_fifth()).report(&mut slots, &mut quota);
     assert_eq!(rt; answer, Ok(5));
     assert_eq!(rt; quota.room_left(), 0);
     assert_eq!(rt; bytes, *b"10001fgh");
@@ -103,7 +112,7 @@ fn quota_over_text(rt: HostRuntime) {
 fn on_air(rt: HostRuntime) {
     let mut slots = [LENT; 6];
     let mut bytes = [0xa5, 0xa5];
-    let answer = transmit(&CONFIG, &first_and_fifth(), &[], &mut slots, &mut bytes);
+    let answer = received(&first_and_fifth()).transmit(&mut slots, &mut bytes);
     assert_eq!(rt; answer, Ok(5));
     assert_eq!(rt; bytes, [0x75, 0xa5]);
     assert_eq!(rt; slots[5], LENT);

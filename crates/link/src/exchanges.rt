@@ -10,7 +10,7 @@ use agreement::Fate;
 use gnb::{Call, Counts, GrantEntry, Mark};
 use harq::{Config, Refusal};
 use sink::BitSink;
-use ue::{Slot, SpsOutcome};
+use ue::{Received, Slot, SpsOutcome};
 
 // What goes into an exchange: the configuration and the SPS list of both cards, the numbering calls at the gNB, and what becomes of the assignments
 // on the air, the fates of number 1, 2, ..
@@ -49,13 +49,12 @@ impl Batch<'_> {
         let sent = numbering.number_all(table, self.calls) as usize;
         let (expected, awaiting) = numbering.close();
         let arrivals = arrive(self.fates, &table[0..sent]);
-        let Heard { report, bytes } = report_heard::<W, S>(
-            self.config,
-            &arrivals,
-            self.sps,
-            slots,
-            sink,
-        );
+        let received = Received {
+            config: self.config,
+            arrivals: &arrivals,
+            sps: self.sps,
+        };
+        let Heard { report, bytes } = report_heard::<W, S>(&received, slots, sink);
         let counts = settle(awaiting, table, marks, report, &bytes);
         Ok(Exchanged {
             expected,

@@ -6,9 +6,9 @@ ghost use Rattle.link.specs.Reported.{IsReported};
 
 use crate::recorders::{REPORT_BYTES, Recorder};
 use crate::ways::Way;
-use harq::{Config, Refusal};
+use harq::Refusal;
 use sink::BitSink;
-use ue::{Arrival, Slot, SpsOutcome};
+use ue::{Received, Slot};
 
 // What the report answered, and the bytes that the gNB reads.
 pub(crate) struct Heard {
@@ -18,18 +18,16 @@ pub(crate) struct Heard {
 
 // The report into the caller's sink; the bits that the sink's own list gained of it are kept for the gNB.
 pub(crate) fn report_heard<W: Way, S: BitSink>(
-    config: &Config,
-    arrivals: &[Arrival],
-    sps: &[SpsOutcome],
+    received: &Received,
     slots: &mut [Slot],
     sink: &mut S,
 ) -> Heard
-    ensures reported { IsReported S.taken S.room S.took W.aired config.now arrivals.now sps.now slots.old sink.old result.report slots.new sink.new }
-    ensures heard { Hold result.bytes (gained_by config.now arrivals.now sps.now result.report) }
+    ensures reported { IsReported S.taken S.room S.took W.aired received.now.config.now received.now.arrivals.now received.now.sps.now slots.old sink.old result.report slots.new sink.new }
+    ensures heard { Hold result.bytes (gained_by received.now.config.now received.now.arrivals.now received.now.sps.now result.report) }
     ensures held { IfOk result.report (λ n. n ≤ 8 * length result.bytes) }
 {
     let mut recorder = Recorder::new(sink);
-    let report = W::report(config, arrivals, sps, slots, &mut recorder);
+    let report = W::report(received, slots, &mut recorder);
     let mut bytes = [0; REPORT_BYTES];
     let _ = W::pack(recorder.bits(), &mut bytes);
     Heard { report, bytes }

@@ -9,9 +9,9 @@ ghost use Rattle.sink.specs.Written.{written};
 ghost use Rattle.sink.proofs.Laws.{flip_twice};
 ghost use Rattle.link.specs.Reported.{IsReported};
 
-use harq::{Config, Refusal};
+use harq::Refusal;
 use sink::{BitSink, pack, pack_inverted};
-use ue::{Arrival, Slot, SpsOutcome, report, report_inverted};
+use ue::{Received, Slot};
 
 pub trait Way {
     // The bits of a report as the sink takes them.
@@ -19,13 +19,11 @@ pub trait Way {
 
     // Puts the UE's report into the sink.
     fn report<S: BitSink>(
-        config: &Config,
-        arrivals: &[Arrival],
-        sps: &[SpsOutcome],
+        received: &Received,
         slots: &mut [Slot],
         sink: &mut S,
     ) -> Result<usize, Refusal>
-        ensures { IsReported S.taken S.room S.took aired config.now arrivals.now sps.now slots.old sink.old result slots.new sink.new };
+        ensures { IsReported S.taken S.room S.took aired received.now.config.now received.now.arrivals.now received.now.sps.now slots.old sink.old result slots.new sink.new };
 
     // Packs the bits that the sink took as the report has them.
     fn pack(bits: &[bool], bytes: &mut [u8]) -> Result<usize, Refusal>
@@ -48,13 +46,11 @@ impl Way for Plain {
     ghost undoes = { λ bits. refl };
 
     fn report<S: BitSink>(
-        config: &Config,
-        arrivals: &[Arrival],
-        sps: &[SpsOutcome],
+        received: &Received,
         slots: &mut [Slot],
         sink: &mut S,
     ) -> Result<usize, Refusal> {
-        report(config, arrivals, sps, slots, sink)
+        received.report(slots, sink)
     }
 
     fn pack(bits: &[bool], bytes: &mut [u8]) -> Result<usize, Refusal> {
@@ -73,13 +69,11 @@ impl Way for Inverted {
     ghost undoes = { flip_twice };
 
     fn report<S: BitSink>(
-        config: &Config,
-        arrivals: &[Arrival],
-        sps: &[SpsOutcome],
+        received: &Received,
         slots: &mut [Slot],
         sink: &mut S,
     ) -> Result<usize, Refusal> {
-        report_inverted(config, arrivals, sps, slots, sink)
+        received.report_inverted(slots, sink)
     }
 
     fn pack(bits: &[bool], bytes: &mut [u8]) -> Result<usize, Refusal> {

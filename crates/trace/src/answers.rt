@@ -11,7 +11,7 @@ use super::faults::{Failure, Fault, Layer};
 use super::lines::{fault_line, report_line};
 use sink::TextBits;
 use std::alloc::{AllocError, Global};
-use ue::{Decline, LONGEST_REPORT, Part, Slot, report_located};
+use ue::{Decline, LONGEST_REPORT, Part, Received, Slot};
 
 // The place that a decline blames: the first byte of the record that failed, or the end of the trace.
 fn blamed_offset(batch: &Batch, end: usize, part: Part) -> usize
@@ -32,13 +32,12 @@ fn report_digits(batch: &Batch, digits: &mut [u8]) -> Result<usize, Decline>
 {
     let mut slots = [Slot::One(false); LONGEST_REPORT];
     let mut sink = TextBits::new(digits);
-    report_located(
-        &batch.config,
-        batch.arrivals.as_slice(),
-        batch.sps.as_slice(),
-        &mut slots,
-        &mut sink,
-    )
+    let received = Received {
+        config: &batch.config,
+        arrivals: batch.arrivals.as_slice(),
+        sps: batch.sps.as_slice(),
+    };
+    received.report_located(&mut slots, &mut sink)
 }
 
 // The line of a batch, whose trace ends at `end`.

@@ -1,8 +1,8 @@
-// What the UE has of a batch: the assignments that arrived, and the SPS receptions.
+// What the UE has of a batch.
 ghost use Rattle.std.specs.Prelude.{◌≡◌, nat_le};
 
-use harq::SpsEntry;
 use harq::sps::SpsListed;
+use harq::{Config, SpsEntry};
 
 // A DCI assignment that arrived, with the outcomes of its blocks (1 ACK, 0 NACK); only the first `blocks` of them count.
 // All are plain numbers, since a card gets any number: the checks refuse a format, a block count or an outcome that is none.
@@ -10,7 +10,7 @@ use harq::sps::SpsListed;
 pub struct Arrival {
     pub cell: u32,
     pub occasion: u32,
-    // 0: 1_0, 1: 1_1, 2: 1_2.
+    // The number of a `Format`.
     pub format: u32,
     // The DAI field.
     pub field: u32,
@@ -38,4 +38,12 @@ impl SpsListed for SpsOutcome {
     fn is_sound(&self) -> bool {
         self.outcome <= 1
     }
+}
+
+// The configuration of a batch, the assignments that arrived, and the SPS receptions.
+#[derive(Clone, Copy)]
+pub struct Received<'a> {
+    pub config: &'a Config,
+    pub arrivals: &'a [Arrival],
+    pub sps: &'a [SpsOutcome],
 }

@@ -3,7 +3,7 @@ ghost use Rattle.std.specs.Prelude.{◌≡◌, ℕ, ◌*◌, ◌^◌, ◌<◌, �
 ghost use Rattle.harq.specs.Words.{onward};
 ghost use Rattle.ue.specs.Checks.{config_judged, arrivals_judged, sps_judged, size_judged, judged, length_of};
 
-use crate::arrivals::{Arrival, SpsOutcome};
+use crate::arrivals::{Received, SpsOutcome};
 use crate::declines::{Decline, Part};
 use crate::reports::LONGEST_REPORT;
 use crate::walks::Walker;
@@ -45,19 +45,15 @@ fn check_size(
     Ok(())
 }
 
-// All checks in their order: the slot count, or the first that refuses.
-pub(crate) fn judge(
-    config: &Config,
-    arrivals: &[Arrival],
-    sps: &[SpsOutcome],
-    lent: usize,
-    room: usize,
-) -> Result<usize, Decline>
-    ensures is { result ≡ judged config.now arrivals.now sps.now lent room }
-    ensures short { IfOk result (λ n. length_of config.now n (length sps.now) ≤ 1706) }
-{
-    let slots = Walker::start(config)?.through(arrivals)?.slots();
-    check_sps(config, sps)?;
-    check_size(config, slots, sps.len(), lent, room)?;
-    Ok(slots)
+impl Received<'_> {
+    // All checks in their order: the slot count, or the first that refuses.
+    pub(crate) fn judge(&self, lent: usize, room: usize) -> Result<usize, Decline>
+        ensures is { result ≡ judged self.now.config.now self.now.arrivals.now self.now.sps.now lent room }
+        ensures short { IfOk result (λ n. length_of self.now.config.now n (length self.now.sps.now) ≤ 1706) }
+    {
+        let slots = Walker::start(self.config)?.through(self.arrivals)?.slots();
+        check_sps(self.config, self.sps)?;
+        check_size(self.config, slots, self.sps.len(), lent, room)?;
+        Ok(slots)
+    }
 }

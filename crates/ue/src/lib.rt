@@ -12,8 +12,7 @@ pub mod theorems;
 pub mod transmitter;
 mod walks;
 
-pub use arrivals::{Arrival, SpsOutcome};
+pub use arrivals::{Arrival, Received, SpsOutcome};
 pub use declines::{Decline, Part};
-pub use reports::{LONGEST_REPORT, report, report_located};
+pub use reports::LONGEST_REPORT;
 pub use slots::Slot;
-pub use transmitter::{report_inverted, transmit};

@@ -13,10 +13,10 @@ returns g c =
     let before = c.new-recorder.result in
     let after = c.report-report.new.sink in
     let reported = c.report-report.ensures in
-    let bits = gained_by c.args.config.now c.args.arrivals.now c.args.sps.now c.report-report.result in
+    let bits = gained_by c.args.received.now.config.now c.args.received.now.arrivals.now c.args.received.now.sps.now c.report-report.result in
     let few : length bits ≤ 1706 =
-    subst (λ r. length (gained_by c.args.config.now c.args.arrivals.now c.args.sps.now r) ≤ 1706) (sym reported.answer)
-    (gained_few c.args.config.now c.args.arrivals.now c.args.sps.now (length c.args.slots.now) _)
+    subst (λ r. length (gained_by c.args.received.now.config.now c.args.received.now.arrivals.now c.args.received.now.sps.now r) ≤ 1706) (sym reported.answer)
+    (gained_few c.args.received.now.config.now c.args.received.now.arrivals.now c.args.received.now.sps.now (length c.args.slots.now) _)
     in
     let empty = c.new-recorder.ensures.empty in
     let recorded : after.bits.items ≡ aired bits =
@@ -40,5 +40,5 @@ returns g c =
         kept = search rules;
       };
       heard = packed_heard aired way.same_length way.undoes _ _ c.bits.result.now bits (c.bits.ensures ∙ recorded) refl (omega (arith, few)) c.pack.ensures.bytes;
-      held = held_by _ _ long (subst (λ r. IfOk r (λ n. n ≤ 1706)) (sym reported.answer) (answered_few c.args.config.now c.args.arrivals.now c.args.sps.now (length c.args.slots.now) _));
+      held = held_by _ _ long (subst (λ r. IfOk r (λ n. n ≤ 1706)) (sym reported.answer) (answered_few c.args.received.now.config.now c.args.received.now.arrivals.now c.args.received.now.sps.now (length c.args.slots.now) _));
     }

@@ -1,8 +1,0 @@
-use Rattle.std.proofs.Common.{length}
-use Rattle.ue.proofs.Clause.{gained_stands}
-use Rattle.ue.proofs.reports.report.Goals as goal
-
-pub returns-clause-clause : goal.returns-clause-clause
-returns-clause-clause g c =
-    let e = c.in_ok-report_located.ensures in
-    gained_stands c.args.config.now c.args.arrivals.now c.args.sps.now (length c.args.slots.now) _ _ _ _ e.answer e.gains.list
