@@ -7,9 +7,10 @@ use harq::Refusal;
 use sink::BitSink;
 use ue::LONGEST_REPORT;
 
-// The bytes that hold the longest report, and the bits that they hold.
+// The bytes that hold the longest report.
 pub(crate) const REPORT_BYTES: usize = (LONGEST_REPORT + 7) / 8;
 
+// The bits that these hold.
 const REPORT_BITS: usize = 8 * REPORT_BYTES;
 
 // Passes each bit down, and keeps those that are taken: as many as the bytes of the longest report hold, which it does not fill.
