@@ -30,7 +30,7 @@ fn with_digit(number: Option<u32>, c: u8) -> Option<u32>
     append_digit(number.unwrap_or(0), decimal_value(c)?)
 }
 
-// The numbers of an ASCII text, none where it is not such. One pass over the bytes: `parse` would read a `+` too, which is refused here.
+// The numbers of an ASCII text, none where it is not such. One pass over the bytes: the contract reads them one by one, and `parse` would read a `+` too, which is refused here.
 pub fn read_numbers(heap: Global, text: &[u8]) -> Result<Option<Vec<u32>>, AllocError>
     ensures { IfOk result (λ o. option_map vec_items o ≡ numbers_in text.now) }
 {

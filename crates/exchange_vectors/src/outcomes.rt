@@ -1,14 +1,14 @@
 // How the outcome of an exchange is told.
 ghost use Rattle.std.specs.Prelude.{◌≡◌, ℕ, List, ◌++◌, map, IfOk, string_bytes, decimal, OnOk};
 ghost use Rattle.gnb.specs.declared.grants.GrantEntry.{GrantEntry};
-ghost use Rattle.exchange_vectors.specs.Outcomes.{answer_text, mark_text, marks_text, each_behind, joined_by, or_dash, counts_text, report_text, grants_text, fields_text, all_marks_text, rest_text, outcome_text, declined_text};
+ghost use Rattle.exchange_vectors.specs.Outcomes.{answer_text, mark_text, marks_text, joined_by, or_dash, counts_text, report_text, grants_text, fields_text, all_marks_text, rest_text, outcome_text, declined_text};
 
 use gnb::{Counts, GrantEntry, Mark, Marks};
 use harq::Refusal;
 use replay::Played;
 use std::alloc::{AllocError, Global};
 
-// What has a word in the line of an outcome. `Display` of numbers, results and marks is not this program's.
+// What has a word in the line of an outcome, as a text of its own: `Display` of numbers, results and marks is not this program's to write.
 pub trait Worded {
     ghost worded: { Self → List ℕ };
 
@@ -75,44 +75,29 @@ impl Worded for Marks {
     }
 }
 
-// Puts the words behind a text, each with another text before it.
-fn push_each<W: Worded>(
-    heap: Global,
-    line: &mut String,
-    list: &[W],
-    between: &str,
-) -> Result<(), AllocError>
-    ensures { OnOk result (string_bytes line.new ≡ string_bytes line.old ++ each_behind between.now (map W.worded list.now)) }
+// The words in order.
+fn words<W: Worded>(heap: Global, list: &[W]) -> Result<Vec<String>, AllocError>
+    ensures { IfOk result (λ v. map string_bytes v.items ≡ map W.worded list.now) }
 {
+    let mut words = Vec::new(heap);
     for item in list {
-        let word = item.word(heap)?;
-        line.push_str(between)?;
-        line.push_str(word.as_str())?;
+        words.push(item.word(heap)?)?;
     }
-    Ok(())
+    Ok(words)
 }
 
 // The words in order, with a text between each two.
 fn joined<W: Worded>(heap: Global, list: &[W], between: &str) -> Result<String, AllocError>
     ensures { IfOk result (λ s. string_bytes s ≡ joined_by between.now (map W.worded list.now)) }
 {
-    let [first, rest @ ..] = list else {
-        return Ok(String::new(heap));
-    };
-    let mut line = first.word(heap)?;
-    push_each(heap, &mut line, rest, between)?;
-    Ok(line)
+    words(heap, list)?.as_slice().join(heap, between)
 }
 
 // A text, `-` where it is empty.
-fn or_dash(heap: Global, text: &str) -> Result<String, AllocError>
-    ensures { IfOk result (λ s. string_bytes s ≡ or_dash text.now) }
+fn or_dash(text: &str) -> &str
+    ensures { result.now ≡ or_dash text.now }
 {
-    if text.is_empty() {
-        String::from_str(heap, "-")
-    } else {
-        String::from_str(heap, text)
-    }
+    if text.is_empty() { "-" } else { text }
 }
 
 // The same of words in order.
@@ -120,7 +105,11 @@ fn joined_or_dash<W: Worded>(heap: Global, list: &[W], between: &str) -> Result<
     ensures { IfOk result (λ s. string_bytes s ≡ or_dash (joined_by between.now (map W.worded list.now))) }
 {
     let text = joined(heap, list, between)?;
-    or_dash(heap, text.as_str())
+    if text.is_empty() {
+        String::from_str(heap, "-")
+    } else {
+        Ok(text)
+    }
 }
 
 fn counts_text(heap: Global, counts: Counts) -> Result<String, AllocError>
@@ -141,10 +130,11 @@ fn report_text(heap: Global, played: &Played) -> Result<String, AllocError>
 {
     let expected = played.exchanged.expected;
     let length = played.exchanged.report.word(heap)?;
-    let bits = or_dash(heap, played.digits.as_str())?;
+    let bits = or_dash(played.digits.as_str());
     format!(in heap; "{expected} {length} {bits}")
 }
 
+// Marks and fields by a function each: one over the field would state it by a closure's predicates, and be no shorter.
 fn marks_of(heap: Global, sent: &[GrantEntry]) -> Result<Vec<Marks>, AllocError>
     ensures { IfOk result (λ v. v.items ≡ map (λ (e : GrantEntry). e.marks) sent.now) }
 {

@@ -1,6 +1,5 @@
 -- What a script's exchange is, and the text of its report. Assumes nothing.
-use Rattle.std.proofs.Common.{◌≡◌, ℕ, ◌<◌, Bool, true, false, cond, not, List, [], ◌∷◌, map, replicate, length, get_or, take, drop, ◌≤◌, min, IfOk, OnOk, Ok, Err, Result, String, vec_items, vec_len, string_bytes, sym, refl, ap, ◌∙◌, subst, ap₂, arith}
-use Rattle.std.specs.Str.{IsAscii}
+use Rattle.std.proofs.Common.{◌≡◌, ℕ, ◌<◌, Bool, true, false, cond, not, List, [], ◌∷◌, map, replicate, length, get_or, take, ◌≤◌, IfOk, OnOk, Ok, Err, Result, String, vec_items, vec_len, string_bytes, sym, refl, ap, ◌∙◌, subst, ap₂, arith}
 use Rattle.std.specs.List.{All}
 use Rattle.std.specs.Result.{result_unwrap_or}
 use Rattle.std.proofs.lemmas.List.Elements.{All-map}
@@ -11,7 +10,6 @@ use Rattle.sink.specs.Digits.{digit, said}
 use Rattle.sink.specs.Written.{written}
 use Rattle.sink.proofs.Laws.{flip_twice}
 use Rattle.sink.proofs.Writing.{written_over}
-use Rattle.harq.specs.declared.configs.Config.{Config}
 use Rattle.harq.specs.declared.refusals.Refusal.{Refusal}
 use Rattle.harq.specs.declared.sps.SpsEntry.{SpsEntry}
 use Rattle.harq.specs.Words.{onward}
@@ -26,10 +24,9 @@ use Rattle.gnb.specs.declared.grants.GrantEntry.{GrantEntry}
 use Rattle.gnb.specs.declared.marks.Mark.{Mark}
 use Rattle.gnb.specs.declared.marks.Mark.TheVariants.{Negative}
 use Rattle.gnb.specs.Plans.{call_of}
-use Rattle.agreement.specs.declared.fates.Fate.{Fate}
 use Rattle.gnb.specs.declared.batches.BatchState.{BatchState}
 use Rattle.gnb.specs.Opening.{opened, fresh_batch}
-use Rattle.gnb.specs.Sending.{Call, batch_run}
+use Rattle.gnb.specs.Sending.{Call}
 use Rattle.agreement.specs.Exchanges.{Exchange, sps_list, all_arrived, report_answered}
 use Rattle.link.specs.declared.exchanges.Batch.{Batch}
 use Rattle.link.specs.declared.exchanges.Exchanged.{Exchanged}

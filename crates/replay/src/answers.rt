@@ -35,10 +35,7 @@ fn number_each(
 fn spend(awaiting: Awaiting, table: &mut [GrantEntry], marks: &mut [Mark])
     requires { too_short awaiting.batch (length table.old) (length marks.old) ≡ false }
 {
-    match awaiting.absent(table, marks) {
-        Ok(_) => (),
-        Err(_e) => unreachable(),
-    }
+    let _ = awaiting.absent(table, marks).unwrap();
 }
 
 // What each numbering call answers, by a batch of its own.

@@ -12,6 +12,7 @@ pub enum Failure {
     Memory(AllocError),
 }
 
+// By hand, since contracts name the failure that `?` makes.
 impl From<Refusal> for Failure {
     ghost from_gives = { λ e r. r ≡ failure.Declined e };
 
@@ -31,7 +32,7 @@ impl From<AllocError> for Failure {
 impl<T: Drop> From<AllocFailed<T>> for Failure {
     ghost from_gives = { λ _ r. r ≡ failure.Memory alloc_error };
 
-    fn from(_e: AllocFailed<T>) -> Failure {
-        Failure::Memory(AllocError)
+    fn from(e: AllocFailed<T>) -> Failure {
+        Failure::Memory(AllocError::from(e))
     }
 }

@@ -6,12 +6,13 @@ ghost use Rattle.replay.specs.Played.{Plays, Fails};
 
 use crate::answers::{answer_calls, numbered_after};
 use crate::failures::Failure;
-use crate::running::{LONGEST, Way, run};
+use crate::running::{Way, run};
 use crate::scripts::Script;
 use gnb::{GrantEntry, Mark};
 use harq::Refusal;
 use link::Exchanged;
 use std::alloc::{AllocError, Global};
+use ue::LONGEST_REPORT;
 
 // What both cards leave.
 #[derive(Drop)]
@@ -46,7 +47,7 @@ pub fn play(heap: Global, script: &Script, way: Way) -> Result<Played, Failure>
     let answers = answer_calls(heap, script, calls.as_slice())?;
     let mut sent = vec![in heap; GrantEntry::default(); script.table]?;
     let mut marks = vec![in heap; Mark::default(); script.sps.len()]?;
-    let mut bytes = vec![in heap; b'0'; LONGEST]?;
+    let mut bytes = vec![in heap; b'0'; LONGEST_REPORT]?;
     let exchanged = run(
         script,
         way,

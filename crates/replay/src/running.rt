@@ -11,12 +11,9 @@ use gnb::{Call, GrantEntry, Mark};
 use harq::Refusal;
 use link::{Batch, Exchanged, Inverted, Plain};
 use sink::{BitSink, Inverter, TextBits};
-use ue::Slot;
+use ue::{LONGEST_REPORT, Slot};
 
-// The longest report, in bits.
-pub(crate) const LONGEST: usize = 1706;
-
-// Whether the report goes into the sink as it is.
+// Whether the report goes into the sink as it is: chosen at run time by a word of the input, where the ways of `link` are types.
 #[derive(Clone, Copy)]
 pub enum Way {
     Plain,
@@ -61,7 +58,7 @@ pub(crate) fn run(
     ensures digits { OnOk result (digits.new ≡ written digits.old 0 (map digit (bits_exchanged (exchange_by script.now (map call_of calls.now) table.old marks.old (length digits.old))))) }
 {
     let batch = script.batch(calls);
-    let mut slots = [Slot::One(false); LONGEST];
+    let mut slots = [Slot::One(false); LONGEST_REPORT];
     let mut text = TextBits::new(digits);
     pass(way, &batch, table, marks, &mut slots, &mut text)
 }

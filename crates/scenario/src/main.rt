@@ -9,7 +9,6 @@ mod losses;
 mod playing;
 mod scenarios;
 mod telling;
-mod words;
 
 use answers::answer;
 use outside::read_input;

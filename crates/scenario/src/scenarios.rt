@@ -36,26 +36,32 @@ pub struct Draft<'a> {
     sps: Vec<SpsOutcome>,
     requests: Vec<Request>,
     fates: Vec<Fate>,
-    // Whether it has a heading or a line of its own.
+    // Whether it has a heading or a line of its own. A flag, since no value comes with it: a heading may name nothing, and a line may set nothing.
     begun: bool,
 }
 
-// Takes the only number of a line as a setting that has not been made.
-fn set<'a>(
-    setting: &mut Option<u32>,
-    line: &Line<'a>,
-    name: &'static str,
-    most: u32,
-    expected: &'static str,
-) -> Result<(), Failure<'a>> {
+// Makes a setting by what is read, which is an error where it has been made.
+fn set<T: Copy, E: Drop, F: FnOnce() -> Result<T, E>>(
+    setting: &mut Option<T>,
+    twice: E,
+    read: F,
+) -> Result<(), E>
+where
+    F: Drop,
+    requires { F.IsAlwaysCallable read }
+{
     if setting.is_some() {
-        return Err(Failure::Twice {
-            line: line.number,
-            setting: name,
-        });
+        return Err(twice);
     }
-    *setting = Some(line.number(1, most, expected)?);
-    line.end(2)
+    *setting = Some(read()?);
+    Ok(())
+}
+
+// The only number of a line.
+fn only<'a>(line: &Line<'a>, most: u32, expected: &'static str) -> Result<u32, Failure<'a>> {
+    let number = line.number(1, most, expected)?;
+    line.end(2)?;
+    Ok(number)
 }
 
 // The format that a word writes.
@@ -155,17 +161,6 @@ impl<'a> Draft<'a> {
         self.begun
     }
 
-    fn take_first(&mut self, line: &Line<'a>) -> Result<(), Failure<'a>> {
-        if self.first.is_some() {
-            return Err(Failure::Twice {
-                line: line.number,
-                setting: "first",
-            });
-        }
-        self.first = Some(firsts_of(line)?);
-        Ok(())
-    }
-
     fn take_call(&mut self, heap: Global, line: &Line<'a>) -> Result<(), Failure<'a>> {
         let occasion = line.number(1, u32::MAX, "an occasion")?;
         line.end(2)?;
@@ -240,25 +235,33 @@ impl<'a> Draft<'a> {
         };
         self.begun = true;
         let any = u32::MAX;
+        let twice = |setting| Failure::Twice {
+            line: line.number,
+            setting,
+        };
         match word {
-            "cells" => set(&mut self.cells, line, "cells", any, "a number of cells"),
+            "cells" => set(
+                &mut self.cells,
+                twice("cells"),
+                || only(line, any, "a number of cells"),
+            ),
             "occasions" => set(
                 &mut self.occasions,
-                line,
-                "occasions",
-                any,
-                "a number of occasions",
+                twice("occasions"),
+                || only(line, any, "a number of occasions"),
             ),
-            "width" => set(&mut self.width, line, "width", any, "a width in bits"),
-            "mode" => set(&mut self.mode, line, "mode", any, "a mode"),
+            "width" => set(
+                &mut self.width,
+                twice("width"),
+                || only(line, any, "a width in bits"),
+            ),
+            "mode" => set(&mut self.mode, twice("mode"), || only(line, any, "a mode")),
             "table" => set(
                 &mut self.entries,
-                line,
-                "table",
-                MOST,
-                "a number of entries up to 512",
+                twice("table"),
+                || only(line, MOST, "a number of entries up to 512"),
             ),
-            "first" => self.take_first(line),
+            "first" => set(&mut self.first, twice("first"), || firsts_of(line)),
             _ => self.take_event(heap, line, word),
         }
     }

@@ -2,7 +2,6 @@
 use crate::lengths::tell_lengths;
 use crate::playing::{Outcome, Sent};
 use crate::scenarios::Scenario;
-use crate::words::refusal_text;
 use gnb::{Counts, GrantEntry, Mark, Marks};
 use harq::{Config, Format, Mode, Refusal, SpsEntry};
 use link::Fate;
@@ -47,10 +46,16 @@ fn tell_heading<W: fmt::Write>(
     writeln!(f, "), span {span}")
 }
 
+// The refusal's number and words. In a scenario the gNB codes every field, and the table is that of the grants.
 fn tell_refusal<W: fmt::Write>(f: &mut fmt::Formatter<W>, refusal: Refusal) -> fmt::Result {
     let number = refusal.number();
-    let text = refusal_text(refusal);
-    writeln!(f, "declined, {number} ({text})")
+    write!(f, "declined, {number} (")?;
+    match refusal {
+        Refusal::Field => f.write_str("format barred")?,
+        Refusal::Table => f.write_str("grant table too short")?,
+        _ => write!(f, "{refusal}")?,
+    }
+    f.write_str(")\n")
 }
 
 // Each call with its answer.

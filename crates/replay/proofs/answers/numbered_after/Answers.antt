@@ -1,8 +1,8 @@
-use Rattle.std.proofs.Common.{◌≡◌, ℕ, List, Result, ap, refl, ◌∙◌, subst, rules}
+use Rattle.std.proofs.Common.{◌≡◌, ℕ, List, Result, refl, subst, rules}
 use Rattle.std.proofs.lemmas.Fn.{fold_over, slice_gives, fronts}
 use Rattle.harq.specs.declared.refusals.Refusal.{Refusal}
-use Rattle.replay.specs.Answers.{numbered_by, numbered_from}
-use Rattle.replay.proofs.Answering.{numbered_more, numbered_one}
+use Rattle.replay.specs.Answers.{numbered_from}
+use Rattle.replay.proofs.Answering.{numbered_one}
 use Rattle.replay.proofs.answers.numbered_after.Goals as goal
 
 pub returns : goal.returns

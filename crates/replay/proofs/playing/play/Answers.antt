@@ -1,4 +1,4 @@
-use Rattle.std.proofs.Common.{◌≡◌, map, length, take, replicate, vec_len, Err, ap, sym, ◌∙◌, ap₂, arith, rules}
+use Rattle.std.proofs.Common.{◌≡◌, map, length, take, replicate, Err, ap, sym, ◌∙◌, ap₂, arith, rules}
 use Rattle.std.proofs.lemmas.List.{with_items_is}
 use Rattle.sink.specs.Digits.{digit, said}
 use Rattle.gnb.specs.declared.marks.Mark.TheVariants.{Negative}
