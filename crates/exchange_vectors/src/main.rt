@@ -14,7 +14,7 @@ use vectors::is_as_said;
 // The longest input, in bytes.
 const LONGEST: u32 = 67_108_864;
 
-// Compares the lines in turn, prints those that differ, and counts both.
+// Compares the lines in turn, prints those that differ, and counts both: by two counters, since no contract says here what a tally would count.
 fn run(rt: &HostRuntime) -> anyhow::Result<()> {
     let text = read_input(rt.alloc(), rt.stdin(), LONGEST)?.context(
         "standard input is longer than 64 MiB",
