@@ -10,10 +10,8 @@ ghost use Rattle.std.specs.Prelude.{◌≤◌, IfOk};
 
 use anyhow::Context;
 use outside::read_input;
+use outside::vectors::{LONGEST, TOO_LONG};
 use verdicts::{Tally, judge_line};
-
-// The longest input, in bytes.
-const LONGEST: u32 = 67_108_864;
 
 // Compares the lines in turn and prints those that differ.
 fn compare_lines(rt: &HostRuntime, text: &str) -> anyhow::Result<Tally>
@@ -32,9 +30,7 @@ fn compare_lines(rt: &HostRuntime, text: &str) -> anyhow::Result<Tally>
 }
 
 fn run(rt: &HostRuntime) -> anyhow::Result<()> {
-    let text = read_input(rt.alloc(), rt.stdin(), LONGEST)?.context(
-        "standard input is longer than 64 MiB",
-    )?;
+    let text = read_input(rt.alloc(), rt.stdin(), LONGEST)?.context(TOO_LONG)?;
     let tally = compare_lines(rt, text.as_str())?;
     rt.println(tally)?;
     Ok(())

@@ -8,17 +8,14 @@ mod scripts;
 mod vectors;
 
 use anyhow::Context;
+use outside::vectors::{LONGEST, TOO_LONG};
 use outside::{is_passed_over, read_input};
 use vectors::is_as_said;
 
-// The longest input, in bytes.
-const LONGEST: u32 = 67_108_864;
-
-// Compares the lines in turn, prints those that differ, and counts both: by two counters, since no contract says here what a tally would count.
+// Compares the lines in turn, prints those that differ, and counts both. By two counters: the tally of `conformance` counts its verdicts, with room
+// for one more that an invariant of its loop keeps, and no contract asks for either here.
 fn run(rt: &HostRuntime) -> anyhow::Result<()> {
-    let text = read_input(rt.alloc(), rt.stdin(), LONGEST)?.context(
-        "standard input is longer than 64 MiB",
-    )?;
+    let text = read_input(rt.alloc(), rt.stdin(), LONGEST)?.context(TOO_LONG)?;
     let mut compared: u64 = 0;
     let mut differ: u64 = 0;
     for (i, line) in text.as_str().lines().enumerate() {

@@ -25,6 +25,7 @@ impl Worded for u32 {
     }
 }
 
+// As for `u32`: a trait over both widths would be longer than these lines.
 impl Worded for usize {
     ghost worded = { decimal };
 

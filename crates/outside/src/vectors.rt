@@ -3,6 +3,11 @@ ghost use Rattle.std.specs.Prelude.{◌≡◌};
 ghost use Rattle.std.specs.Option.{option_map};
 ghost use Rattle.outside.specs.Vectors.{passed_over, split_at, vector_in, both_texts, said};
 
+// The longest input of vectors, in bytes, and what is told of a longer one.
+pub const LONGEST: u32 = 67_108_864;
+
+pub const TOO_LONG: &str = "standard input is longer than 64 MiB";
+
 // What should come of an input.
 #[derive(Clone, Copy)]
 pub struct Vector<'a> {

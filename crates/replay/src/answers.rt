@@ -38,7 +38,7 @@ fn spend(awaiting: Awaiting, table: &mut [GrantEntry], marks: &mut [Mark])
     let _ = awaiting.absent(table, marks).unwrap();
 }
 
-// What each numbering call answers, by a batch of its own.
+// What each numbering call answers, by a batch of its own. The calls come beside the script, since they borrow its grants.
 pub(crate) fn answer_calls(
     heap: Global,
     script: &Script,
