@@ -9,7 +9,7 @@ ghost use Rattle.gnb.specs.Calls.{allowed, grant_refused, grants_refused, occasi
 ghost use Rattle.gnb.specs.Entries.{entry_at};
 
 use super::{Awaiting, Numbering, State};
-use crate::grants::{Grant, GrantEntry};
+use crate::grants::{Call, Grant, GrantEntry};
 use crate::marks::Marks;
 use harq::{Config, Placer, Refusal};
 use std::marker::PhantomData;
@@ -125,26 +125,27 @@ impl Numbering {
     }
 
     // A call is judged: the occasion, each grant, then the table.
-    fn check_call(&self, table: usize, occasion: u32, grants: &[Grant]) -> Result<(), Refusal>
-        ensures is { result ≡ allowed (call_refused self.now.batch table occasion grants.now) }
-        ensures few { OnOk result (length grants.now ≤ self.now.batch.config.cells) }
-        ensures space { OnOk result (self.now.batch.numbered + length grants.now ≤ table) }
-        ensures later { OnOk result ((occasion < self.now.batch.config.occasions) × (next_occasion self.now.batch.last ≤ occasion)) }
+    fn check_call(&self, table: usize, call: &Call) -> Result<(), Refusal>
+        ensures is { result ≡ allowed (call_refused self.now.batch table call.now.occasion call.now.grants.now) }
+        ensures few { OnOk result (length call.now.grants.now ≤ self.now.batch.config.cells) }
+        ensures space { OnOk result (self.now.batch.numbered + length call.now.grants.now ≤ table) }
+        ensures later { OnOk result ((call.now.occasion < self.now.batch.config.occasions) × (next_occasion self.now.batch.last ≤ call.now.occasion)) }
     {
-        self.check_occasion(occasion)?;
-        self.check_grants(occasion, grants)?;
-        if table < self.batch.numbered as usize + grants.len() {
+        self.check_occasion(call.occasion)?;
+        self.check_grants(call.occasion, call.grants)?;
+        if table < self.batch.numbered as usize + call.grants.len() {
             return Err(Refusal::Table);
         }
         Ok(())
     }
 
     // Places the entries of a call's grants in the table, each by its counter, behind those before.
-    fn place_entries(&self, occasion: u32, grants: &[Grant], table: &mut [GrantEntry])
-        requires few { length grants.now ≤ self.now.batch.config.cells }
-        requires space { self.now.batch.numbered + length grants.now ≤ length table.old }
-        ensures { table.new ≡ written table.old self.now.batch.numbered (entries_of self.now.batch.config occasion (self.now.batch.numbered + length grants.now) self.now.batch.numbered grants.now) }
+    fn place_entries(&self, call: &Call, table: &mut [GrantEntry])
+        requires few { length call.now.grants.now ≤ self.now.batch.config.cells }
+        requires space { self.now.batch.numbered + length call.now.grants.now ≤ length table.old }
+        ensures { table.new ≡ written table.old self.now.batch.numbered (entries_of self.now.batch.config call.now.occasion (self.now.batch.numbered + length call.now.grants.now) self.now.batch.numbered call.now.grants.now) }
     {
+        let Call { occasion, grants } = *call;
         let config = &self.batch.config;
         let span = config.span();
         let numbered = self.batch.numbered;
@@ -172,8 +173,9 @@ impl Numbering {
         ensures batch { self.new.batch ≡ batch_after self.old.batch (length table.old) occasion grants.now }
         ensures table { table.new ≡ table_after self.old.batch occasion grants.now table.old }
     {
-        self.check_call(table.len(), occasion, grants)?;
-        self.place_entries(occasion, grants, table);
+        let call = Call { occasion, grants };
+        self.check_call(table.len(), &call)?;
+        self.place_entries(&call, table);
         let numbered = self.batch.numbered + grants.len() as u32;
         let granted = self.batch.granted + count_blocks(grants);
         self.batch.last = Some(occasion);
