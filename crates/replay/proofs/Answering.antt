@@ -28,11 +28,6 @@ answer_more calls i d front next all r b b' n n' inside kept pushed answered aft
     ∙ sym (at_drop_more (λ (l : List code.Call). with_rest front b n (map call_of l)) calls i d inside)
     ∙ kept)
 
-pub answer_last : (calls : List code.Call) (i : ℕ) (front : List (Result ℕ Refusal)) (b : BatchState) (table : ℕ) → length calls ≤ i →
-    with_rest front b table (map call_of (drop i calls)) ≡ front
-answer_last calls i front b table end =
-    at_drop_all (λ (l : List code.Call). with_rest front b table (map call_of l)) calls i end ∙ append-nil front
-
 pub numbered_more : (n : ℕ) (rs : List (Result ℕ Refusal)) (r : Result ℕ Refusal) → numbered_from n (rs ++ r ∷ []) ≡ numbered_by (numbered_from n rs) r
 numbered_more n [] r = refl
 numbered_more n (s ∷ rs) r = numbered_more (numbered_by n s) rs r

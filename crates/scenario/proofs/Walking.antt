@@ -24,18 +24,6 @@ pub record Walked (arrived : List Bool) (i : ℕ) (best run : Run) : Type 0 wher
 no_run : (arrived : List Bool) (start : ℕ) → LostRun arrived start 0
 no_run arrived start k above upto = absurd (omega arith)
 
-walked_first : (arrived : List Bool) → Walked arrived 0 (record { before = 0; long = 0 }) (record { before = 0; long = 0 })
-walked_first arrived = record {
-  all = omega arith;
-  here = refl;
-  run_lost = no_run arrived 0;
-  best_lost = no_run arrived 0;
-  less = omega arith;
-}
-
-pub walked_start : (arrived : List Bool) (best run : Run) → best ≡ record { before = 0; long = 0 } → run ≡ record { before = 0; long = 0 } → Walked arrived 0 best run
-walked_start arrived best run e f = rw (e, f) (walked_first arrived)
-
 any_default : (bs : List Bool) (i : ℕ) → i < length bs → get_or bs i true ≡ get_or bs i false
 any_default [] i lt = absurd (omega arith)
 any_default (b ∷ bs) zero lt = refl
@@ -82,15 +70,9 @@ module _ (arrived : List Bool) (i : ℕ) (best run : Run) (lt : i < length arriv
   walked_next true e = met e
   walked_next false e = missed e
 
-pub walked_last : (arrived : List Bool) (i : ℕ) (best run : Run) → length arrived ≤ i → Walked arrived i best run → best.long ≡ longest arrived
-walked_last arrived i best run end w = omega (arith, w.all, w.less, at_drop_all (longest_after run.long) arrived i end)
-
 -- one assignment more
 pub walked_more : (sent : List Sent) (i : ℕ) (d : Sent) (best run next longest-yet : Run) → i < length sent → Walked (map arrived sent) i best run →
     next ≡ run_after run (get_or sent i d).fate.arrived → longest-yet ≡ longer best next → Walked (map arrived sent) (i + 1) longest-yet next
 walked_more sent i d best run next longest-yet lt w is chosen =
     rw (chosen, is)
     (walked_next (map arrived sent) i best run (omega (arith, lt, length-map sent arrived)) w (get_or sent i d).fate.arrived (get_or-map arrived sent i d false lt))
-
-pub walked_all : (sent : List Sent) (i : ℕ) (best run : Run) → length sent ≤ i → Walked (map arrived sent) i best run → best.long ≡ longest (map arrived sent)
-walked_all sent i best run end w = walked_last (map arrived sent) i best run (omega (arith, end, length-map sent arrived)) w

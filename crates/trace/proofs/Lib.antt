@@ -3,6 +3,5 @@ pub mod Steps
 pub mod Walk
 pub mod Occasions
 pub mod Said
-pub mod Defaults
 pub mod Shown
 pub mod Answering

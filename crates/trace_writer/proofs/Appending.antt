@@ -1,19 +1,9 @@
 -- What is written piece by piece, and how long it is. Assumes nothing.
 use Rattle.std.proofs.Common.{◌≡◌, ℕ, zero, suc, ◌+◌, ◌*◌, ◌/◌, ◌^◌, ◌<◌, ◌≤◌, List, [], ◌∷◌, ◌++◌, length, get_or, take, sym, ap, ◌∙◌, ⊎_elim, append_assoc, arith, length-append}
 use Rattle.std.specs.List.{flat_map}
-use Rattle.std.proofs.lemmas.List.{flat_map_more, take_more, take_all}
 use Rattle.std.proofs.lemmas.Bool.{cases_lt}
 use Rattle.trace_writer.specs.Coding.{coded_by, coded}
 use Rattle.trace_writer.proofs.RoundTrip.{coded_short, coded_long}
-
--- one turn of a loop that writes f of each element
-module _ {X : Type 0} (f : X → List ℕ) (before so_far : List ℕ) (xs : List X) (i : ℕ) (e : so_far ≡ before ++ flat_map f (take i xs)) where
-  pub each_more : (after : List ℕ) (d : X) → i < length xs → after ≡ so_far ++ f (get_or xs i d) → after ≡ before ++ flat_map f (take (i + 1) xs)
-  each_more after d h w =
-      w ∙ ap (λ l. l ++ f (get_or xs i d)) e ∙ flat_map_more f before (take i xs) (get_or xs i d) ∙ ap (λ l. before ++ flat_map f l) (sym (take_more xs i d h))
-
-  pub each_all : length xs ≤ i → so_far ≡ before ++ flat_map f xs
-  each_all h = e ∙ ap (λ l. before ++ flat_map f l) (take_all i xs h)
 
 -- three pieces behind something
 pub three_pieces : (o a b c x y z : List ℕ) → a ≡ o ++ x → b ≡ a ++ y → c ≡ b ++ z → c ≡ o ++ (x ++ (y ++ z))

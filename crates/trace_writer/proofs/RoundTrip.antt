@@ -137,9 +137,6 @@ pub write_more : (n r : ℕ) (xs ys : List ℕ) → 128 ≤ r → r < limit n �
 write_more zero r xs ys h lt e = absurd (omega arith)
 write_more (suc m) r xs ys h lt e = (m, omega arith, append_assoc xs _ _ ∙ ap (λ l. xs ++ l) (sym (coded_long m r h)) ∙ e)
 
-pub write_last : (n r : ℕ) (xs ys : List ℕ) → r < 128 → xs ++ coded_by n r ≡ ys → xs ++ r ∷ [] ≡ ys
-write_last n r xs ys h e = ap (λ l. xs ++ l) (sym (coded_short n r h)) ∙ e
-
 pub write_first : (v : ℕ) (xs : List ℕ) → v < 2 ^ 32 → (n : ℕ) × (v < limit n) × (xs ++ coded_by n v ≡ xs ++ coded v)
 unfolding coded
 write_first v xs h = (4, omega arith, refl)
