@@ -43,6 +43,7 @@ fn both_coded<L: TotalLayout>(number: u32, numbered: u32) -> u32
 }
 
 // The counter with the total, if the layout has one; none where the field is too wide.
+// A match, since here a layout's enum becomes a type, and nothing is shorter.
 pub fn read(layout: Layout, field: u32) -> Option<(u32, Option<u32>)>
     ensures { result ≡ reading layout field }
 {
@@ -54,6 +55,7 @@ pub fn read(layout: Layout, field: u32) -> Option<(u32, Option<u32>)>
 }
 
 // The field of an assignment: its own number, counted from 1, and how many are numbered up to its occasion.
+// A match, as in `read`.
 pub fn code(layout: Layout, number: u32, numbered: u32) -> u32
     ensures { result ≡ coded layout number numbered }
 {

@@ -59,7 +59,7 @@ impl Counts {
         ensures is { result ≡ with_marks self (all_of (λ x. marks_in (T.marks_of x)) items.now) }
         ensures few { marked result ≤ marked self + 2 * length items.now }
     {
-        // A loop: a closure of `fold` could not show that there is room for the next mark.
+        // A loop: a closure of `fold` would have to say in a clause of its own that there is room.
         let mut counts = self;
         for item in items {
             counts = counts.with_one(item.marks());

@@ -16,6 +16,7 @@ pub struct Grant {
 pub struct GrantEntry {
     pub cell: u32,
     pub occasion: u32,
+    // As in a grant: a lent table may hold any number.
     pub format: u32,
     pub blocks: u32,
     // Counted from 1.

@@ -18,7 +18,7 @@ pub struct Config {
     pub width: u32,
     // The number of a `Mode`.
     pub mode: u32,
-    // Per cell the first occasion that counts after a bandwidth part change; from `cells` on not looked at.
+    // Per cell the first occasion that counts after a bandwidth part change; from `cells` on not looked at. Of a fixed length: the cards have no heap.
     pub first: [u32; 16],
 }
 

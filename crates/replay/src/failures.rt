@@ -12,7 +12,7 @@ pub enum Failure {
     Memory(AllocError),
 }
 
-// By hand, since contracts name the failure that `?` makes.
+// These three by hand: contracts name the failure that `?` makes, and a derived `From` has no contract.
 impl From<Refusal> for Failure {
     ghost from_gives = { λ e r. r ≡ failure.Declined e };
 

@@ -16,7 +16,8 @@ fn without_comment(text: &str) -> &str {
     text.split_once('#').map_or(text, |(before, _)| before)
 }
 
-// The number that digits write, none where a word is not such or the number is too large.
+// The number that digits write, none where a word is not such or the number is too large. Not that of `exchange_vectors`, which reads bytes under a
+// definition; this reads one word under none.
 fn number_in(word: &str) -> Option<u32> {
     if word.starts_with('+') {
         return None;

@@ -64,7 +64,7 @@ fn only<'a>(line: &Line<'a>, most: u32, expected: &'static str) -> Result<u32, F
     Ok(number)
 }
 
-// The format that a word writes; words for formats are a scenario's, all else has them as numbers.
+// The format that a word writes: only scenarios read formats as words.
 fn format_of<'a>(line: &Line<'a>, at: usize) -> Result<u32, Failure<'a>> {
     let expected = "a format, 1_0, 1_1 or 1_2";
     let format = match line.word(at, expected)? {

@@ -66,7 +66,7 @@ pub enum Failure {
     Memory(AllocError),
 }
 
-// By hand, since contracts name the failure that `?` makes.
+// These three by hand: contracts name the failure that `?` makes, and a derived `From` has no contract.
 impl From<Fault> for Failure {
     ghost from_gives = { λ f r. r ≡ failure.Fault f };
 

@@ -16,6 +16,7 @@ pub struct Arrival {
     pub field: u32,
     // Transport blocks; 0 is an SPS release or a dormancy message.
     pub blocks: u32,
+    // Of a fixed length: the cards have no heap.
     pub outcomes: [u8; 2],
 }
 

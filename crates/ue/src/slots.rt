@@ -28,7 +28,7 @@ impl From<&Arrival> for Slot {
 
 impl Slot {
     // The first bit of the place, or the only one: both outcomes at once where they are bundled.
-    // The mode as its number, as the configuration has it.
+    // The mode as its number, as the configuration has it: a card gets any number.
     pub fn first_bit(self, mode: u32) -> bool
         ensures { result ≡ first_bit mode self }
     {
