@@ -1,11 +1,12 @@
 -- What is known of accepted calls and of their grants. Assumes nothing.
-use Rattle.std.proofs.Common.{◌≡◌, ℕ, ◌+◌, ◌<◌, ◌≤◌, Bool, true, false, cond, List, [], ◌∷◌, length, is_some, Some, None, Option, refl, arith}
+use Rattle.std.proofs.Common.{◌≡◌, ℕ, ◌+◌, ◌<◌, ◌≤◌, Bool, true, false, cond, List, [], ◌∷◌, map, length, is_some, Some, None, Option, refl, arith}
 use Rattle.std.specs.List.{AllByRecursion}
 use Rattle.std.proofs.lemmas.Bool.{ltb-false, leb-false, not-false}
 use Rattle.harq.specs.declared.configs.Config.{Config}
 use Rattle.harq.specs.declared.refusals.Refusal.{Refusal}
 use Rattle.harq.specs.Words.{or_else}
 use Rattle.harq.specs.Configs.{counts, layout_of, blocks_within}
+use Rattle.harq.specs.PlacingLaws.{Rising}
 use Rattle.gnb.specs.declared.batches.BatchState.{BatchState}
 use Rattle.gnb.specs.declared.grants.Grant.{Grant}
 use Rattle.gnb.specs.Limits.{next_occasion}
@@ -120,3 +121,8 @@ accepted_taken b table [] = tt
 accepted_taken b table (c ∷ cs) =
     by_refusal (λ _ accepted. AllTaken b table accepted) b table c cs
     (λ is. (taken b table c is, accepted_taken (after_call b c) table cs)) (λ e is. accepted_taken b table cs)
+
+-- the occasions of accepted calls rise strictly
+pub occasions_rise : (b : BatchState) (table : ℕ) (cs : List Call) → AllTaken b table cs → Rising (next_occasion b.last) (map (λ (c : Call). c.occasion) cs)
+occasions_rise b table [] all = tt
+occasions_rise b table (c ∷ cs) all = (all.0.later, occasions_rise (after_call b c) table cs all.1)

@@ -25,6 +25,10 @@ pub allowed_some : (o : Option Refusal) (y : Refusal) → Err y ≡ allowed o �
 allowed_some None y e = let z : ◌≡◌ {A = ℕ} 0 1 = cc in absurd (omega arith)
 allowed_some (Some x) y e = let s : x ≡ y = cc in ap Some s
 
+-- a grant that is accepted is of a cell of its own
+pub grant_within : (g : Config) (m lowest : ℕ) (a : Grant) → grant_refused g m lowest a ≡ None → (a.cell < g.cells) × (lowest ≤ a.cell)
+grant_within g m lowest a e = (grind (arith, nat_tests), grind (arith, nat_tests))
+
 module _ (g : Config) (m lowest : ℕ) (gs : List Grant) (i : ℕ) (all : Option Refusal) (inv : grants_refused g m lowest (drop i gs) ≡ all)
     (d : Grant) (within : i < length gs) where
   turn : or_else (grant_refused g m lowest (get_or gs i d)) (grants_refused g m ((get_or gs i d).cell + 1) (drop (i + 1) gs)) ≡ all

@@ -1,8 +1,9 @@
 -- What the slots hold. Assumes nothing.
-use Rattle.std.proofs.Common.{◌≡◌, ℕ, ◌+◌, ◌<◌, ◌≤◌, Bool, true, false, cond, eqb, ◌≢◌, List, [], ◌∷◌, ◌++◌, map, length, get_or, set, replicate, Some, None, Option, unwrap_or, sym, refl, ap, ◌∙◌, subst, arith}
-use Rattle.std.proofs.lemmas.List.{length-set, length-append, length-replicate, get_or-set_same, get_or-set_other, get_or_append_left, get_or-append-add, get_or-replicate}
+use Rattle.std.proofs.Common.{◌≡◌, ℕ, ◌+◌, ◌<◌, ◌≤◌, Bool, true, false, cond, eqb, ◌≢◌, List, [], ◌∷◌, ◌++◌, map, length, get_or, drop, set, replicate, Some, None, Option, unwrap_or, sym, refl, ap, ◌∙◌, subst, arith}
+use Rattle.std.proofs.lemmas.List.{length-set, length-append, length-replicate, length-drop, get_or-set_same, get_or-set_other, get_or_append_left, get_or-append-add, get_or-drop, get_or-replicate}
 use Rattle.std.proofs.lemmas.Bool.{eqb-true, eqb-false, ne_eqb, cond-false}
 use Rattle.std.specs.List.{range_with_len}
+use Rattle.std.specs.Option.{option_or}
 use Rattle.harq.specs.Placing.{standing_at, written_at}
 use Rattle.harq.specs.PlacingLaws.{Rising, Below, SlotsHold}
 use Rattle.harq.proofs.Rows.{below_le, made_by_place}
@@ -25,6 +26,25 @@ module _ {E : Type 0} where
   standing_past p n (q ∷ qs) [] b ge = refl
   standing_past p n (q ∷ qs) (x ∷ xs) b ge =
       cond-false (eqb q p) (Some x) (standing_at p qs xs) (ne_eqb q p (λ e. omega arith)) ∙ standing_past p n qs xs b.1 ge
+
+  -- one more entry at the end
+  pub written_at_push : (qs : List ℕ) (xs slots : List E) (q : ℕ) (x : E) → length xs ≡ length qs →
+      written_at (qs ++ q ∷ []) (xs ++ x ∷ []) slots ≡ set (written_at qs xs slots) q x
+  written_at_push [] [] slots q x same = refl
+  written_at_push [] (y ∷ xs) slots q x same = absurd (omega arith)
+  written_at_push (o ∷ qs) [] slots q x same = absurd (omega arith)
+  written_at_push (o ∷ qs) (y ∷ xs) slots q x same = written_at_push qs xs (set slots o y) q x (omega arith)
+
+  pub standing_at_push : (p : ℕ) (qs : List ℕ) (xs : List E) (q : ℕ) (x : E) → length xs ≡ length qs →
+      standing_at p (qs ++ q ∷ []) (xs ++ x ∷ []) ≡ option_or (standing_at p qs xs) (cond (eqb q p) (Some x) None)
+  standing_at_push p [] [] q x same = refl
+  standing_at_push p [] (y ∷ xs) q x same = absurd (omega arith)
+  standing_at_push p (o ∷ qs) [] q x same = absurd (omega arith)
+  standing_at_push p (o ∷ qs) (y ∷ xs) q x same =
+      elim (eqb o p) as (λ b. cond b (Some y) (standing_at p (qs ++ q ∷ []) (xs ++ x ∷ [])) ≡ option_or (cond b (Some y) (standing_at p qs xs)) (cond (eqb q p) (Some x) None)) [
+        | true ↦ refl
+        | false ↦ standing_at_push p qs xs q x (omega arith)
+      ]
 
   -- a slot holds the entry whose place it is, and any other keeps its content
   hold_one : (q : ℕ) (qs : List ℕ) (x : E) (xs slots : List E) (p : ℕ) (d : E) → Rising (q + 1) qs → q < length slots → (b : Bool) → eqb q p ≡ b →
@@ -57,6 +77,13 @@ module _ {E : Type 0} where
         made_by_place f n (written_at qs xs slots) rest d (length_written_at qs xs slots ∙ all) (λ k h. hold k ∙ front k h)
         (λ k. hold (n + k) ∙ ap (λ (o : Option E). unwrap_or o (get_or slots (n + k) d)) (standing_past (n + k) n qs xs b (omega arith)) ∙ back k)
 
+  -- d is any entry
+  pub written_slots : (qs : List ℕ) (xs slots : List E) (n : ℕ) (d : E) → Rising 0 qs → Below n qs → length xs ≡ length qs → n ≤ length slots →
+      written_at qs xs slots ≡ map (λ p. unwrap_or (standing_at p qs xs) (get_or slots p d)) (range_with_len 0 n) ++ drop n slots
+  written_slots qs xs slots n d r b same room =
+      written_by qs xs n r b same slots (drop n slots) (λ p. unwrap_or (standing_at p qs xs) (get_or slots p d)) d
+      (omega (arith, length-drop n slots)) (λ k h. refl) (λ k. sym (get_or-drop n slots k d))
+
   -- over slots of which the first n hold v
   pub written_over : (qs : List ℕ) (xs rest : List E) (n : ℕ) (v : E) → Rising 0 qs → Below n qs → length xs ≡ length qs →
       written_at qs xs (replicate n v ++ rest) ≡ map (λ p. unwrap_or (standing_at p qs xs) v) (range_with_len 0 n) ++ rest
@@ -66,6 +93,10 @@ module _ {E : Type 0} where
       (omega (arith, length-append (replicate n v) rest))
       (λ k h. ap (unwrap_or (standing_at k qs xs)) (get_or_append_left (replicate n v) rest v k (omega arith) ∙ get_or-replicate n k v v h))
       (λ k. rw many at (get_or-append-add (replicate n v) rest k v))
+
+  pub written_filled : (qs : List ℕ) (xs slots : List E) (n : ℕ) (v : E) → Rising 0 qs → Below n qs → length xs ≡ length qs → n ≤ length slots →
+      written_at qs xs (replicate n v ++ drop n slots) ≡ map (λ p. unwrap_or (standing_at p qs xs) v) (range_with_len 0 n) ++ drop n slots
+  written_filled qs xs slots n v r b same room = written_over qs xs (drop n slots) n v r b same
 
 pub slots_hold : (E : Type 0) → SlotsHold E
 slots_hold E = hold_from 0

@@ -83,7 +83,7 @@ module _ (x : Exchange) (b : BatchState) (is : Ok b ≡ opening x) where
   own = entries_placed x.config (sps_list x) x.table x.calls (batch_left x) (table_left x) (left x unrefused)
 
   -- the entries hold what was sent
-  sent_held : (n : ℕ) → n ≡ (batch_left x).numbered → map assignment_in (take n (table_left x)) ≡ all_sent x
+  pub sent_held : (n : ℕ) → n ≡ (batch_left x).numbered → map assignment_in (take n (table_left x)) ≡ all_sent x
   sent_held n e = ap (λ (k : ℕ). map assignment_in (take k (table_left x))) e ∙ (left x unrefused).holds
 
   -- and what arrives of them is what the UE has

@@ -1,10 +1,10 @@
 -- What a sink gains, by its room, and through an inverter.
-use Rattle.std.proofs.Common.{◌≡◌, ℕ, ◌+◌, ◌<◌, ◌≤◌, Bool, not, List, [], ◌∷◌, ◌++◌, map, length, Ok, Err, sym, refl, ap, ◌∙◌, arith}
+use Rattle.std.proofs.Common.{◌≡◌, ℕ, ◌+◌, ◌-◌, ◌<◌, ◌≤◌, Bool, not, List, [], ◌∷◌, ◌++◌, map, length, get_or, take, Ok, Err, sym, refl, ap, ◌∙◌, arith}
 use Rattle.std.proofs.Math.Bool.{not-not}
 use Rattle.std.proofs.lemmas.Bool.Decides.{nat_tests}
-use Rattle.std.proofs.lemmas.List.{map-append, length-map, length_push}
+use Rattle.std.proofs.lemmas.List.{map-append, length-map, length_push, append_assoc, take_more}
 use Rattle.harq.specs.declared.refusals.Refusal.{Refusal}
-use Rattle.sink.specs.Sink.{answer_at, gained, all_gained}
+use Rattle.sink.specs.Sink.{answer_at, gained, all_gained, accepted, room_after}
 
 -- with room the list gains the bit
 pub gained_room : (n : ℕ) (t : List Bool) (b : Bool) → 0 < n → gained n t b ≡ t ++ (b ∷ [])
@@ -21,6 +21,14 @@ length_gained n t b h = grind (arith, nat_tests, length_push)
 pub all_gained_room : (n : ℕ) (t bits : List Bool) → length bits ≤ n → all_gained n t bits ≡ t ++ bits
 all_gained_room n t bits h = grind (arith, nat_tests)
 
+-- no more is taken than there is room for
+pub accepted_few : (n : ℕ) (bits : List Bool) → length (accepted n bits) ≤ n
+accepted_few n bits = grind (arith, nat_tests)
+
+-- the room falls by what is taken
+pub room_fallen : (n : ℕ) (bits : List Bool) → room_after n bits ≡ n - length (accepted n bits)
+room_fallen n bits = grind (arith, nat_tests)
+
 -- a bit that was accepted had room
 pub ok_room : (n : ℕ) (u : Unit {0}) → Ok u ≡ answer_at n → 0 < n
 ok_room n u e = grind (arith, nat_tests)
@@ -28,6 +36,10 @@ ok_room n u e = grind (arith, nat_tests)
 -- a bit that was refused had none
 pub err_room : (n : ℕ) (e : Refusal) → Err e ≡ answer_at n → n ≡ 0
 err_room n e p = grind (arith, nat_tests)
+
+-- a run, one bit on
+pub run_more : (t bits : List Bool) (i : ℕ) (d : Bool) → i < length bits → (t ++ take i bits) ++ (get_or bits i d ∷ []) ≡ t ++ take (i + 1) bits
+run_more t bits i d h = append_assoc t (take i bits) (get_or bits i d ∷ []) ∙ ap (λ x. t ++ x) (sym (take_more bits i d h))
 
 pub flip_twice : (bits : List Bool) → map not (map not bits) ≡ bits
 flip_twice [] = refl
