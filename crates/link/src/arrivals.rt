@@ -1,5 +1,5 @@
 // The assignments that arrive at the UE.
-ghost use Rattle.std.specs.Prelude.{◌≡◌, ◌≤◌, cond, map, length};
+ghost use Rattle.std.specs.Prelude.{◌≡◌, ◌≤◌, cond, [], map, length};
 ghost use Rattle.gnb.specs.Sending.{assignment_in};
 ghost use Rattle.agreement.specs.Fates.{fate_of, arrival_of, arrivals_of};
 
@@ -35,13 +35,12 @@ fn arrival_in(fates: &[Fate], e: &GrantEntry) -> Option<Arrival>
     fate.arrived.then(|| arrival_of(e, fate))
 }
 
-// Those of the entries' assignments that are not lost.
-pub(crate) fn arrive(fates: &[Fate], entries: &[GrantEntry]) -> ArrayVec<Arrival, MOST>
-    requires { length entries.now ≤ MOST }
-    ensures { result.items ≡ arrivals_of fates.now (map assignment_in entries.now) }
+// Those of the entries' assignments that are not lost, into an empty list. It is lent, since a list of that size would be copied where it is answered.
+pub(crate) fn arrive(fates: &[Fate], entries: &[GrantEntry], arrivals: &mut ArrayVec<Arrival, MOST>)
+    requires empty { arrivals.old.items ≡ [] }
+    requires fits { length entries.now ≤ MOST }
+    ensures { arrivals.new.items ≡ arrivals_of fates.now (map assignment_in entries.now) }
 {
-    let mut arrivals = ArrayVec::new();
     // All of these fit.
     let _ = arrivals.extend(entries.iter().filter_map(|e| arrival_in(fates, e)));
-    arrivals
 }

@@ -7,6 +7,7 @@ use crate::reports::{Heard, report_heard};
 use crate::settlements::settle;
 use crate::ways::Way;
 use agreement::Fate;
+use arrayvec::ArrayVec;
 use gnb::{Call, Counts, GrantEntry, Mark};
 use harq::{Config, Refusal};
 use sink::BitSink;
@@ -48,7 +49,8 @@ impl Batch<'_> {
         let mut numbering = open(self.config, self.sps, table, marks)?;
         let sent = numbering.number_all(table, self.calls) as usize;
         let (expected, awaiting) = numbering.close();
-        let arrivals = arrive(self.fates, &table[0..sent]);
+        let mut arrivals = ArrayVec::new();
+        arrive(self.fates, &table[0..sent], &mut arrivals);
         let received = Received {
             config: self.config,
             arrivals: &arrivals,

@@ -9,7 +9,7 @@ pub returns : goal.returns
 returns c =
     let fates = c.args.fates.now in
     let entries = c.args.entries.now in
-    filled c.new-arrivals.result.items c.extend.new.self.items c.new-arrivals.ensures c.extend.result 512 c.extend.ensures.ran c.extend.ensures.full _
-    (omega (arith, few_arrive fates entries, ap length (arrivals_in fates entries), c.requires))
+    filled c.args.arrivals.now.items c.extend.new.self.items c.requires.empty c.extend.result 512 c.extend.ensures.ran c.extend.ensures.full _
+    (omega (arith, few_arrive fates entries, ap length (arrivals_in fates entries), c.requires.fits))
     (YieldsList-from_filter_map _ (arrival_in fates) (YieldsList-from_slice entries cc) c.filter_map.ensures.closure (λ x r q k. search rules))
     ∙ arrivals_in fates entries

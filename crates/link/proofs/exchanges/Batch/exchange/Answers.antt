@@ -62,7 +62,7 @@ returns g c =
     let table : c.number_all-sent.new.table ≡ table_left x = c.number_all-sent.ensures.table ∙ table_is x b is in
     let marks : c.open.new.marks ≡ marks_left x = c.open.ensures.marks in
     let came : c.deref.result.now ≡ all_arrived x =
-    c.deref.ensures.0 ∙ c.arrive-arrivals.ensures ∙ arrived_is x b is _ _ (omega (arith, c.number_all-sent.ensures.answer)) c.number_all-sent.ensures.table
+    c.deref.ensures.0 ∙ c.arrive.ensures ∙ arrived_is x b is _ _ (omega (arith, c.number_all-sent.ensures.answer)) c.number_all-sent.ensures.table
     in
     let r = c.report_heard-report.result.report in
     let bytes = c.report_heard-report.result.bytes in
