@@ -160,8 +160,9 @@ fn tell_bits<W: fmt::Write>(
     from: usize,
     count: usize,
 ) -> fmt::Result {
-    for digit in digits.chars().skip(from).take(count) {
-        f.write_char(digit)?;
+    // Digits are ASCII: bytes are passed over at once, where characters would be decoded one by one.
+    for digit in digits.as_bytes().iter().skip(from).take(count) {
+        f.write_str(if *digit == b'1' { "1" } else { "0" })?;
     }
     f.write_str("\n")
 }
