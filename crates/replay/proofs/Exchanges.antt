@@ -8,7 +8,6 @@ use Rattle.std.proofs.lemmas.Str.Ascii.{IsAscii-from_all, encodes-IsAscii}
 use lib.Utf8.{encodes}
 use Rattle.sink.specs.Digits.{digit, said}
 use Rattle.sink.specs.Written.{written}
-use Rattle.sink.proofs.Laws.{flip_twice}
 use Rattle.sink.proofs.Writing.{written_over}
 use Rattle.harq.specs.declared.refusals.Refusal.{Refusal}
 use Rattle.harq.specs.declared.sps.SpsEntry.{SpsEntry}
@@ -32,6 +31,9 @@ use Rattle.link.specs.declared.exchanges.Batch.{Batch}
 use Rattle.link.specs.declared.exchanges.Exchanged.{Exchanged}
 use Rattle.link.specs.Played.{exchange_of, opening, exchanged, exchanged_by, table_exchanged, marks_exchanged, if_opened, bits_gained, bits_exchanged}
 use Rattle.link.proofs.Bounds.{gained_few}
+use Rattle.replay.specs.declared.running.Way.{Way}
+use Rattle.replay.specs.declared.running.Way.TheVariants as way
+use Rattle.replay.specs.Ways.{aired, told}
 use Rattle.replay.specs.Answers.{answers_from, numbered_from}
 use Rattle.replay.specs.Scripts.{asked, no_entry, exchange_by, exchange_in}
 use Rattle.replay.specs.Played.{Plays, answers_of}
@@ -46,22 +48,20 @@ pub exchange_is : (s : Script) (b : Batch) (calls : List code.Call) (table : Lis
     exchange_of b table marks (replicate 1706 (slot.One false)) room ≡ exchange_by s (map call_of calls) table marks n
 exchange_is s b calls table marks room n d e f h i = rw (d, e, f, h, i) refl
 
--- bits flipped twice
-pub unflipped : {S : Type 0} (took : S → List Bool → S → Type 0) (before after : S) (bits : List Bool) →
-    took before (map not (map not bits)) after → took before bits after
-unflipped took before after bits t = subst (λ (l : List Bool). took before l after) (flip_twice bits) t
-
 either_small : (b : Bool) (m n : ℕ) → m < 128 → n < 128 → cond b m n < 128
 either_small true m n hm hn = hm
 either_small false m n hm hn = hn
 
-told_small : (ds : List ℕ) → All (λ d. d < 128) (map (λ d. digit (said d)) ds)
-told_small ds = All-map (λ d. d < 128) (λ d. digit (said d)) ds (λ k d lt. either_small (said (get_or ds k d)) 49 48 (omega arith) (omega arith))
+told_small : (w : Way) (d : ℕ) → told w d < 128
+told_small way.Plain d = either_small (said d) 49 48 (omega arith) (omega arith)
+told_small way.Inverted d = either_small (not (said d)) 49 48 (omega arith) (omega arith)
 
 -- digits are their own text
-pub told_text : {Z E : Type 0} (r : Result (String Z) E) (ds : List ℕ) →
-    IfOk r (λ s. string_bytes s ≡ encodes (map (λ d. digit (said d)) ds)) → IfOk r (λ s. string_bytes s ≡ map (λ d. digit (said d)) ds)
-told_text r ds h = subst (λ l. IfOk r (λ s. string_bytes s ≡ l)) (encodes-IsAscii (map (λ d. digit (said d)) ds) (IsAscii-from_all _ (told_small ds))) h
+pub told_text : {Z E : Type 0} (r : Result (String Z) E) (w : Way) (ds : List ℕ) →
+    IfOk r (λ s. string_bytes s ≡ encodes (map (told w) ds)) → IfOk r (λ s. string_bytes s ≡ map (told w) ds)
+told_text r w ds h =
+    let small : All (λ d. d < 128) (map (told w) ds) = All-map (λ d. d < 128) (told w) ds (λ k d lt. told_small w (get_or ds k d)) in
+    subst (λ l. IfOk r (λ s. string_bytes s ≡ l)) (encodes-IsAscii (map (told w) ds) (IsAscii-from_all _ small)) h
 
 -- what calls answer that are made after an opening
 pub answers_are : (s : Script) (sps : List SpsEntry) (b : BatchState) (marks n : ℕ) (calls : List Call) (items : List (Result ℕ Refusal)) →
@@ -95,18 +95,26 @@ module _ (x : Exchange) where
       go (Ok b) is = let same : e.report ≡ report_answered x = cc in gained_long ∙ ap (λ r. result_unwrap_or r 0) (sym same)
       go (Err y) is = let z : ◌≡◌ {A = ℕ} 0 1 = cc in absurd (omega arith)
 
--- what was written in front, as digits
-digits_again : (bits : List Bool) → map (λ d. digit (said d)) (map digit bits) ≡ map digit bits
-digits_again [] = refl
-digits_again (true ∷ bits) = ap (λ l. 49 ∷ l) (digits_again bits)
-digits_again (false ∷ bits) = ap (λ l. 48 ∷ l) (digits_again bits)
+-- the digits of what the sink took, told as those of the report
+digits_again : (w : Way) (bits : List Bool) → map (told w) (map digit (aired w bits)) ≡ map digit bits
+digits_again way.Plain [] = refl
+digits_again way.Plain (true ∷ bits) = ap (λ l. 49 ∷ l) (digits_again way.Plain bits)
+digits_again way.Plain (false ∷ bits) = ap (λ l. 48 ∷ l) (digits_again way.Plain bits)
+digits_again way.Inverted [] = refl
+digits_again way.Inverted (true ∷ bits) = ap (λ l. 49 ∷ l) (digits_again way.Inverted bits)
+digits_again way.Inverted (false ∷ bits) = ap (λ l. 48 ∷ l) (digits_again way.Inverted bits)
 
-pub digits_are : (bits : List Bool) (old after : List ℕ) (n : ℕ) → after ≡ written old 0 (map digit bits) → length bits ≤ length old → length bits ≡ n →
-    map (λ d. digit (said d)) (take n after) ≡ map digit bits
-digits_are bits old after n is few long =
-    ap (λ l. map (λ d. digit (said d)) (take n l)) (is ∙ written_over old (map digit bits) (omega (arith, few, length-map bits digit)))
-    ∙ ap (map (λ d. digit (said d))) (take_at (map digit bits) _ n (length-map bits digit ∙ long))
-    ∙ digits_again bits
+length_aired : (w : Way) (bits : List Bool) → length (aired w bits) ≡ length bits
+length_aired way.Plain bits = refl
+length_aired way.Inverted bits = length-map bits not
+
+pub digits_are : (w : Way) (bits : List Bool) (old after : List ℕ) (n : ℕ) → after ≡ written old 0 (map digit (aired w bits)) →
+    length bits ≤ length old → length bits ≡ n → map (told w) (take n after) ≡ map digit bits
+digits_are w bits old after n is few long =
+    let many : length (map digit (aired w bits)) ≡ length bits = length-map (aired w bits) digit ∙ length_aired w bits in
+    ap (λ l. map (told w) (take n l)) (is ∙ written_over old (map digit (aired w bits)) (omega (arith, few, many)))
+    ∙ ap (map (told w)) (take_at (map digit (aired w bits)) _ n (many ∙ long))
+    ∙ digits_again w bits
 
 -- the report has at most 1,706 bits
 few_bits : (x : Exchange) → length (bits_exchanged x) ≤ 1706
@@ -127,12 +135,12 @@ module _ (s : Script) (calls : List Call) (table : List GrantEntry) (marks : Lis
   same : lent ≡ exchange_in s
   same = ap (exchange_by s calls table marks) room ∙ script_exchange s calls table marks asks blank clear
 
-  pub plays : (p : Played) (after : List GrantEntry) (digits : List ℕ) (count : ℕ) →
+  pub plays : (p : Played) (w : Way) (after : List GrantEntry) (digits : List ℕ) (count : ℕ) →
       vec_items p.answers ≡ answers_of (exchange_in s) → Ok p.exchanged ≡ exchanged lent → after ≡ table_exchanged lent →
       vec_items p.sent ≡ take count after → count ≡ numbered_from 0 (vec_items p.answers) → vec_items p.marks ≡ marks_exchanged lent →
-      string_bytes p.digits ≡ map (λ d. digit (said d)) (take (result_unwrap_or p.exchanged.report 0) digits) →
-      digits ≡ written old 0 (map digit (bits_exchanged lent)) → Plays (exchange_in s) p
-  plays p after digits count answers is left sent many marked told wrote =
+      string_bytes p.digits ≡ map (told w) (take (result_unwrap_or p.exchanged.report 0) digits) →
+      digits ≡ written old 0 (map digit (aired w (bits_exchanged lent))) → Plays (exchange_in s) p
+  plays p w after digits count answers is left sent many marked says wrote =
       let x = exchange_in s in
       let is-x : Ok p.exchanged ≡ exchanged x = is ∙ ap exchanged same in
       let long = reported_long x p.exchanged is-x in
@@ -144,7 +152,7 @@ module _ (s : Script) (calls : List Call) (table : List GrantEntry) (marks : Lis
         exchanged = is-x;
         sent = sent ∙ ap₂ take (many ∙ ap (numbered_from 0) answers ∙ run) (left ∙ ap table_exchanged same);
         marks = marked ∙ ap marks_exchanged same;
-        digits = told ∙ digits_are (bits_exchanged lent) old digits _ wrote (omega (arith, same-long, few, room)) (same-long ∙ long) ∙ ap (λ y. map digit (bits_exchanged y)) same;
+        digits = says ∙ digits_are w (bits_exchanged lent) old digits _ wrote (omega (arith, same-long, few, room)) (same-long ∙ long) ∙ ap (λ y. map digit (bits_exchanged y)) same;
       }
 
 -- an exchange that is declined was declined at its opening

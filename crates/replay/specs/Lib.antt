@@ -1,3 +1,4 @@
 pub mod Answers
+pub mod Ways
 pub mod Scripts
 pub mod Played

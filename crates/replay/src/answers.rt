@@ -24,7 +24,7 @@ fn number_each(
     ensures fits { numbering.new.batch.numbered ≤ length table.new }
     ensures sps { numbering.new.batch.sps ≡ numbering.old.batch.sps }
 {
-    let mut answers = Vec::new(heap);
+    let mut answers = Vec::with_capacity(heap, calls.len())?;
     for call in calls {
         answers.push(numbering.number(table, call.occasion, call.grants))?;
     }

@@ -1,6 +1,7 @@
 // Exchanges played through both cards.
 ghost use Rattle.std.specs.Prelude.{◌≡◌, map, IfOk, IfErr, string_bytes};
-ghost use Rattle.sink.specs.Digits.{digit, said};
+ghost use Rattle.sink.specs.Digits.{digit};
+ghost use Rattle.replay.specs.Ways.{told};
 ghost use Rattle.replay.specs.Scripts.{exchange_in};
 ghost use Rattle.replay.specs.Played.{Plays, Fails};
 
@@ -28,14 +29,23 @@ pub struct Played {
     pub digits: String,
 }
 
-// The text of digits; what is no `1` says the bit of `0`.
-fn text_of(heap: Global, digits: &[u8]) -> Result<String, AllocError>
-    ensures { IfOk result (λ s. string_bytes s ≡ map (λ d. digit (said d)) digits.now) }
+// A digit of the report, by the one that the sink's text has for it: an inverter has flipped it. What is no `1` says the bit of `0`.
+fn told(way: Way, byte: u8) -> char
+    ensures { result ≡ told way byte }
 {
-    digits
-        .iter()
-        .map(|d| if *d == b'1' { '1' } else { '0' })
-        .collect(heap)
+    let one = byte == b'1';
+    let bit = match way {
+        Way::Plain => one,
+        Way::Inverted => !one,
+    };
+    if bit { '1' } else { '0' }
+}
+
+// The text of the report whose digits the sink took.
+fn text_of(heap: Global, way: Way, digits: &[u8]) -> Result<String, AllocError>
+    ensures { IfOk result (λ s. string_bytes s ≡ map (told way) digits.now) }
+{
+    digits.iter().map(|byte| told(way, *byte)).collect(heap)
 }
 
 // Plays a script through both cards, and makes its numbering calls once more for what each of them answers.
@@ -58,7 +68,7 @@ pub fn play(heap: Global, script: &Script, way: Way) -> Result<Played, Failure>
     )?;
     sent.truncate(numbered_after(answers.as_slice()));
     bytes.truncate(exchanged.report.unwrap_or(0));
-    let digits = text_of(heap, bytes.as_slice())?;
+    let digits = text_of(heap, way, bytes.as_slice())?;
     Ok(Played {
         answers,
         exchanged,

@@ -1,6 +1,6 @@
 use Rattle.std.proofs.Common.{◌≡◌, map, length, take, replicate, Err, ap, sym, ◌∙◌, ap₂, arith, rules}
 use Rattle.std.proofs.lemmas.List.{with_items_is}
-use Rattle.sink.specs.Digits.{digit, said}
+use Rattle.replay.specs.Ways.{told}
 use Rattle.gnb.specs.declared.marks.Mark.TheVariants.{Negative}
 use Rattle.gnb.specs.Plans.{call_of}
 use Rattle.link.specs.Played.{opening}
@@ -22,12 +22,12 @@ returns-clause-plays c =
     (c.as_mut_slice.ensures.value ∙ table ∙ ap (replicate s.table) blank)
     (c.as_mut_slice-2.ensures.value ∙ marks ∙ ap (replicate c.len.result) negative ∙ ap (λ n. replicate n Negative) c.len.ensures)
     (ap length c.as_mut_slice-3.ensures.value ∙ long)
-    _ c.run.new.table c.run.new.digits _ c.in_ok-answers.ensures.answers (sym c.in_ok-exchanged.was ∙ c.run.ensures.exchanged) c.run.ensures.table
+    _ c.args.way c.run.new.table c.run.new.digits _ c.in_ok-answers.ensures.answers (sym c.in_ok-exchanged.was ∙ c.run.ensures.exchanged) c.run.ensures.table
     (c.truncate.ensures.items ∙ ap (take _) (with_items_is c.in_ok-sent.sent c.run.new.table (omega (arith, c.run.auto.table, c.as_mut_slice.ensures.len))))
     (c.numbered_after.ensures ∙ ap (numbered_from 0) c.as_slice-3.ensures.value)
     (with_items_is c.in_ok-marks.marks c.run.new.marks (omega (arith, c.run.auto.marks, c.as_mut_slice-2.ensures.len)) ∙ c.run.ensures.marks)
     (c.in_ok-digits.ensures
-    ∙ ap (map (λ d. digit (said d))) (c.as_slice-4.ensures.value ∙ c.truncate-2.ensures.items
+    ∙ ap (map (told c.args.way)) (c.as_slice-4.ensures.value ∙ c.truncate-2.ensures.items
     ∙ ap₂ take c.unwrap_or.ensures (with_items_is c.in_ok-bytes.bytes c.run.new.digits (omega (arith, c.run.auto.digits, c.as_mut_slice-3.ensures.len)))))
     (on_ok _ _ _ c.in_ok-exchanged.was c.run.ensures.digits)
 
