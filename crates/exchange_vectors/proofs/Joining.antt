@@ -1,13 +1,26 @@
--- Words in a row, as the library joins them.
-use Rattle.std.proofs.Common.{◌≡◌, ℕ, List, [], ◌∷◌, ◌++◌, map, refl, ap, ◌∙◌, append_assoc, flat_map}
-use Rattle.std.specs.List.{join_by}
+-- Words in a row, one more at the end.
+use Rattle.std.proofs.Common.{◌≡◌, ℕ, ◌-◌, ◌<◌, ◌≤◌, List, [], ◌∷◌, ◌++◌, map, length, get_or, take, drop, sym, refl, ap, ◌∙◌, ap₂, append_assoc, append-nil, arith}
+use Rattle.std.proofs.lemmas.List.{take_rest}
 use Rattle.exchange_vectors.specs.Outcomes.{each_behind, joined_by}
 
-each_of : {X : Type 0} (word : X → List ℕ) (between : List ℕ) (xs : List X) → flat_map (λ x. between ++ word x) xs ≡ each_behind between (map word xs)
-each_of word between [] = refl
-each_of word between (x ∷ xs) =
-    append_assoc between (word x) (flat_map (λ y. between ++ word y) xs) ∙ ap (λ l. between ++ (word x ++ l)) (each_of word between xs)
+pub each_more : (between : List ℕ) (ws : List (List ℕ)) (w : List ℕ) → each_behind between (ws ++ w ∷ []) ≡ (each_behind between ws ++ between) ++ w
+each_more between [] w = ap (λ l. between ++ l) (append-nil w)
+each_more between (v ∷ ws) w =
+    ap (λ l. between ++ (v ++ l)) (each_more between ws w)
+    ∙ ap (λ l. between ++ l) (sym (append_assoc v (each_behind between ws ++ between) w) ∙ ap (λ l. l ++ w) (sym (append_assoc v (each_behind between ws) between)))
+    ∙ sym (append_assoc between ((v ++ each_behind between ws) ++ between) w)
+    ∙ ap (λ l. l ++ w) (sym (append_assoc between (v ++ each_behind between ws) between))
 
-pub joined_of : {X : Type 0} (word : X → List ℕ) (between : List ℕ) (xs : List X) → join_by word between xs ≡ joined_by between (map word xs)
-joined_of word between [] = refl
-joined_of word between (x ∷ xs) = ap (λ l. word x ++ l) (each_of word between xs)
+pub regroup : (a b c d : List ℕ) → ((a ++ b) ++ c) ++ d ≡ a ++ ((b ++ c) ++ d)
+regroup a b c d = ap (λ l. l ++ d) (append_assoc a b c) ∙ append_assoc a (b ++ c) d
+
+-- no word, and a first one with the others behind it
+pub joined_none : {X : Type 0} (word : X → List ℕ) (between : List ℕ) (xs : List X) → length xs < 1 → joined_by between (map word xs) ≡ []
+joined_none word between [] h = refl
+joined_none word between (x ∷ xs) h = absurd (omega arith)
+
+pub joined_first : {X : Type 0} (word : X → List ℕ) (between : List ℕ) (xs : List X) (x : X) → 1 ≤ length xs → x ≡ get_or xs 0 x →
+    word x ++ each_behind between (map word (take (length xs - 1) (drop 1 xs))) ≡ joined_by between (map word xs)
+joined_first word between [] x h is = absurd (omega arith)
+joined_first word between (y ∷ xs) x h is =
+    ap₂ (λ z (l : List _). word z ++ each_behind between (map word l)) is (take_rest (y ∷ xs) 1)

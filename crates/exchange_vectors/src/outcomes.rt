@@ -1,7 +1,7 @@
 // How the outcome of an exchange is told.
 ghost use Rattle.std.specs.Prelude.{◌≡◌, ℕ, List, ◌++◌, map, IfOk, string_bytes, decimal, OnOk};
 ghost use Rattle.gnb.specs.declared.grants.GrantEntry.{GrantEntry};
-ghost use Rattle.exchange_vectors.specs.Outcomes.{answer_text, mark_text, marks_text, joined_by, or_dash, counts_text, report_text, grants_text, fields_text, all_marks_text, rest_text, outcome_text, declined_text};
+ghost use Rattle.exchange_vectors.specs.Outcomes.{answer_text, mark_text, marks_text, each_behind, joined_by, or_dash, counts_text, report_text, grants_text, fields_text, all_marks_text, rest_text, outcome_text, declined_text};
 
 use gnb::{Counts, GrantEntry, Mark, Marks};
 use harq::Refusal;
@@ -76,22 +76,33 @@ impl Worded for Marks {
     }
 }
 
-// The words in order.
-fn words<W: Worded>(heap: Global, list: &[W]) -> Result<Vec<String>, AllocError>
-    ensures { IfOk result (λ v. map string_bytes v.items ≡ map W.worded list.now) }
+// Puts the words behind a text, each with another text before it. Word by word: a list of them all for the library's join takes a heap block for each.
+fn push_each<W: Worded>(
+    heap: Global,
+    line: &mut String,
+    list: &[W],
+    between: &str,
+) -> Result<(), AllocError>
+    ensures { OnOk result (string_bytes line.new ≡ string_bytes line.old ++ each_behind between.now (map W.worded list.now)) }
 {
-    let mut words = Vec::new(heap);
     for item in list {
-        words.push(item.word(heap)?)?;
+        let word = item.word(heap)?;
+        line.push_str(between)?;
+        line.push_str(word.as_str())?;
     }
-    Ok(words)
+    Ok(())
 }
 
 // The words in order, with a text between each two.
 fn joined<W: Worded>(heap: Global, list: &[W], between: &str) -> Result<String, AllocError>
     ensures { IfOk result (λ s. string_bytes s ≡ joined_by between.now (map W.worded list.now)) }
 {
-    words(heap, list)?.as_slice().join(heap, between)
+    let [first, rest @ ..] = list else {
+        return Ok(String::new(heap));
+    };
+    let mut line = first.word(heap)?;
+    push_each(heap, &mut line, rest, between)?;
+    Ok(line)
 }
 
 // A text, `-` where it is empty.
