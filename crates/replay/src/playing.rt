@@ -67,6 +67,8 @@ pub fn play(heap: Global, script: &Script, way: Way) -> Result<Played, Failure>
         bytes.as_mut_slice(),
     )?;
     sent.truncate(numbered_after(answers.as_slice()));
+    // The rest of the table, which may be long, is not kept.
+    sent.shrink_to_fit();
     bytes.truncate(exchanged.report.unwrap_or(0));
     let digits = text_of(heap, way, bytes.as_slice())?;
     Ok(Played {

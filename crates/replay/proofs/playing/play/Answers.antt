@@ -23,7 +23,7 @@ returns-clause-plays c =
     (c.as_mut_slice-2.ensures.value ∙ marks ∙ ap (replicate c.len.result) negative ∙ ap (λ n. replicate n Negative) c.len.ensures)
     (ap length c.as_mut_slice-3.ensures.value ∙ long)
     _ c.args.way c.run.new.table c.run.new.digits _ c.in_ok-answers.ensures.answers (sym c.in_ok-exchanged.was ∙ c.run.ensures.exchanged) c.run.ensures.table
-    (c.truncate.ensures.items ∙ ap (take _) (with_items_is c.in_ok-sent.sent c.run.new.table (omega (arith, c.run.auto.table, c.as_mut_slice.ensures.len))))
+    (c.shrink_to_fit.ensures.items ∙ c.truncate.ensures.items ∙ ap (take _) (with_items_is c.in_ok-sent.sent c.run.new.table (omega (arith, c.run.auto.table, c.as_mut_slice.ensures.len))))
     (c.numbered_after.ensures ∙ ap (numbered_from 0) c.as_slice-3.ensures.value)
     (with_items_is c.in_ok-marks.marks c.run.new.marks (omega (arith, c.run.auto.marks, c.as_mut_slice-2.ensures.len)) ∙ c.run.ensures.marks)
     (c.in_ok-digits.ensures
